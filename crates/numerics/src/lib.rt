@@ -1,0 +1,1 @@
+// Specifications and laws that every other crate cites; no code runs.
