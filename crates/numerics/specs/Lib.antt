@@ -22,3 +22,6 @@ pub mod Pow2
 pub mod Fields
 pub mod Nonneg
 pub mod Poly
+pub mod Exponential
+pub mod Limit
+pub mod Alternating
