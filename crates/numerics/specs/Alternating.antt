@@ -5,12 +5,13 @@
 use mathlib.Core.Path.{_≡_, refl, sym, ap, ap₂, _∙_, subst}
 use Prim.Native.Nat.{ℕ, zero, suc, _+_, _-_, _*_, _^_, _≤_, _<_}
 use native.Mathlib.Nat.{le-refl, le-trans, le-of-eq, le-of-suc-le, mul-pos, zero-lt-suc, mul-one, one-mul, mul-zero, zero-add, mul-le-mul-right, mul-le-mul-left, le-of-mul-le-mul-right, pow-suc, pow-zero, sub-self, sub-zero, add-comm, add-sub-cancel, add-sub-cancel-left, le-add-left, le-add-right, eq-of-mul-eq-mul-left}
+use native.Mathlib.Decide.{le-ind}
 use native.Mathlib.Omega.{arith}
-use Rattle.numerics.specs.Frac.{Frac, _⊑_, _⊞_, _⊠_, nat, ⊑-refl, ⊑-trans}
+use Rattle.numerics.specs.Frac.{Frac, _⊑_, _⊞_, _⊠_, nat, ⊑-refl, ⊑-trans, add-mono, add-cancel}
 use Rattle.numerics.specs.Conv.{sum, conv, D, sum-cong, conv-cong, conv-scale, conv-scale', leibniz, triangle-in-square, box-in-triangle}
 use Rattle.numerics.specs.Series.{sumTop, sumBot, sumBot-pos, S, U, Above, S-mono, S-below-U}
 use Rattle.numerics.specs.Law.{rise, term, one-more, rise-pos, term-rule, rise-split, sum-terms, whole, all, mono-⊠}
-use Rattle.numerics.specs.Limit.{T, Far, far-more, far-first, limit}
+use Rattle.numerics.specs.Limit.{T, Far, far-more, tail-anti, limit}
 use Rattle.numerics.specs.Exponential.{powers, sums}
 
 -- ---- the powers of -a by their signs, and the sums of each kind
@@ -166,3 +167,99 @@ module _ (l n : ℕ) (x : Frac) where
     where
       clear : (o s Bn Bl Rn Rl K e t : ℕ) → K ≡ Bn * Rn → K ≡ Bl * Rl → o * Rn * (s * Rl) ≤ K * K + e * t → o * s * (1 * (K * K)) ≤ (1 * (K * K) + e * t * 1) * (Bn * Bl)
       clear o s Bn Bl Rn Rl K e t p q h = omega (arith, mul-le-mul-right (Bn * Bl) h, ap (λ (z : ℕ). o * s * z) (ap₂ _*_ p q))
+
+-- ---- what the later terms add is at most the tail's bound
+both-grow : (n : ℕ) (x : Frac) → (even n x ⊑ even (suc n) x) × (odd n x ⊑ odd (suc n) x)
+unfolding sums sumBot
+both-grow n x = (
+  more (sums n 0 (x .top) (x .bot) .0) (sumBot n (x .bot)) (x .bot * suc n) (powers (suc n) 0 (x .top) .0),
+  more (sums n 0 (x .top) (x .bot) .1) (sumBot n (x .bot)) (x .bot * suc n) (powers (suc n) 0 (x .top) .1),
+)
+  where
+    more : (E Q k P : ℕ) → E * (Q * k) ≤ (E * k + P) * Q
+    more E Q k P = omega arith
+
+both-mono : (m n : ℕ) (x : Frac) → m ≤ n → (even m x ⊑ even n x) × (odd m x ⊑ odd n x)
+both-mono m n x h =
+    le-ind (λ k. (even m x ⊑ even k x) × (odd m x ⊑ odd k x)) (⊑-refl (even m x), ⊑-refl (odd m x))
+    (λ k _ ih. (⊑-trans (even m x) (even k x) (even (suc k) x) (ih .0) (both-grow k x .0), ⊑-trans (odd m x) (odd k x) (odd (suc k) x) (ih .1) (both-grow k x .1))) n h
+
+both-tail : (n m : ℕ) (x : Frac) → Far n x → n ≤ m → (even m x ⊑ even n x ⊞ T n x) × (odd m x ⊑ odd n x ⊞ T n x)
+unfolding sumBot
+both-tail n m x h l =
+    let a = x .top in
+    let b = x .bot in
+    let u : sumTop m a b * sumBot (suc n) b ≤ (sumTop n a b * (b * suc n) + 2 * a ^ suc n) * sumBot m b = S-below-U n m x h in
+    let v : (sums m 0 a b .0 + sums m 0 a b .1) * (sumBot n b * (b * suc n)) ≤ ((sums n 0 a b .0 + sums n 0 a b .1) * (b * suc n) + 2 * a ^ suc n) * sumBot m b = rw (both-sums m a b, both-sums n a b) u in
+    let g = both-mono n m x l in (
+      part (sums m 0 a b .0) (sums m 0 a b .1) (sums n 0 a b .0) (sums n 0 a b .1) (sumBot n b) (b * suc n) (2 * a ^ suc n) (sumBot m b) v (g .1),
+      part (sums m 0 a b .1) (sums m 0 a b .0) (sums n 0 a b .1) (sums n 0 a b .0) (sumBot n b) (b * suc n) (2 * a ^ suc n) (sumBot m b) (swap (sums m 0 a b .0) (sums m 0 a b .1) (sums n 0 a b .0) (sums n 0 a b .1) (sumBot n b) (b * suc n) (2 * a ^ suc n) (sumBot m b) v) (g .0),
+    )
+  where
+    part : (eM oM e o B k t M : ℕ) → (eM + oM) * (B * k) ≤ ((e + o) * k + t) * M → o * M ≤ oM * B → eM * (B * (B * k)) ≤ (e * (B * k) + t * B) * M
+    part eM oM e o B k t M h g = omega (arith, mul-le-mul-right B h, mul-le-mul-right (B * k) g)
+
+    swap : (eM oM e o B k t M : ℕ) → (eM + oM) * (B * k) ≤ ((e + o) * k + t) * M → (oM + eM) * (B * k) ≤ ((o + e) * k + t) * M
+    swap eM oM e o B k t M h = omega arith
+
+-- ---- the limits
+S-tail : (n m : ℕ) (x : Frac) → Far n x → S m x ⊑ S n x ⊞ T n x
+unfolding sumBot
+S-tail n m x h = wide (sumTop m (x .top) (x .bot)) (sumBot m (x .bot)) (sumTop n (x .top) (x .bot)) (sumBot n (x .bot)) (x .bot * suc n) (2 * x .top ^ suc n) (S-below-U n m x h)
+  where
+    wide : (s M e B k t : ℕ) → s * (B * k) ≤ (e * k + t) * M → s * (B * (B * k)) ≤ (e * (B * k) + t * B) * M
+    wide s M e B k t h = omega (arith, mul-le-mul-right B h)
+
+spread : (q o t : Frac) → (q ⊞ o) ⊠ t ⊑ q ⊠ t ⊞ o ⊠ t
+spread q o t = omega arith
+
+join : (q o s : Frac) → q ⊠ s ⊞ o ⊠ s ⊑ (q ⊞ o) ⊠ s
+join q o s = omega arith
+
+gather : (p o s t : Frac) → p ⊞ o ⊠ (s ⊞ t) ⊑ p ⊞ o ⊠ t ⊞ o ⊠ s
+gather p o s t = omega arith
+
+assoc : (p q r : Frac) → p ⊞ (q ⊞ r) ⊑ p ⊞ q ⊞ r
+assoc p q r = omega arith
+
+-- 1 ≤ q * e ^ a
+pub reciprocal-above : (a q B : Frac) (n : ℕ) → Far n a → even n a ⊞ T n a ⊑ q ⊞ odd n a → Above a B → one ⊑ q ⊠ B
+reciprocal-above a q B n h k A = limit a one (q ⊠ B) (odd n a) each
+  where
+    each : (l : ℕ) → Far l a → one ⊑ q ⊠ B ⊞ odd n a ⊠ T l a
+    each l f =
+        let N = l + n in
+        let o = odd n a in
+        let s = S l a in
+        let t = S N a in
+        let x : even N a ⊑ q ⊞ o = ⊑-trans (even N a) (even n a ⊞ T n a) (q ⊞ o) (both-tail n N a h (le-add-left n l) .0) k in
+        let y : one ⊞ o ⊠ s ⊑ (q ⊞ o) ⊠ t = ⊑-trans (one ⊞ o ⊠ s) (even N a ⊠ t) ((q ⊞ o) ⊠ t) (odd-in-even l n a) (mono-⊠ (even N a) (q ⊞ o) t t x (⊑-refl t)) in
+        let z : q ⊠ t ⊞ o ⊠ t ⊑ q ⊠ B ⊞ o ⊠ (s ⊞ T l a) = add-mono (q ⊠ t) (q ⊠ B) (o ⊠ t) (o ⊠ (s ⊞ T l a)) (mono-⊠ q q t B (⊑-refl q) (A N)) (mono-⊠ o o t (s ⊞ T l a) (⊑-refl o) (S-tail l N a f)) in
+        let w : one ⊞ o ⊠ s ⊑ q ⊠ B ⊞ o ⊠ T l a ⊞ o ⊠ s =
+        ⊑-trans (one ⊞ o ⊠ s) ((q ⊞ o) ⊠ t) (q ⊠ B ⊞ o ⊠ T l a ⊞ o ⊠ s) y
+        (⊑-trans ((q ⊞ o) ⊠ t) (q ⊠ t ⊞ o ⊠ t) (q ⊠ B ⊞ o ⊠ T l a ⊞ o ⊠ s) (spread q o t)
+        (⊑-trans (q ⊠ t ⊞ o ⊠ t) (q ⊠ B ⊞ o ⊠ (s ⊞ T l a)) (q ⊠ B ⊞ o ⊠ T l a ⊞ o ⊠ s) z (gather (q ⊠ B) o s (T l a)))) in
+        add-cancel one (q ⊠ B ⊞ o ⊠ T l a) (o ⊠ s) w
+
+-- q * e ^ a ≤ 1
+pub reciprocal-below : (a q : Frac) (n : ℕ) → Far n a → q ⊞ odd n a ⊞ T n a ⊑ even n a → (m : ℕ) → q ⊠ S m a ⊑ one
+reciprocal-below a q n h k m = limit a (q ⊠ S m a) one (odd n a ⊞ T n a) each
+  where
+    -- for every l from m on; below that m itself serves
+    each : (l : ℕ) → Far l a → q ⊠ S m a ⊑ one ⊞ (odd n a ⊞ T n a) ⊠ T l a
+    each l f =
+        let o = odd n a ⊞ T n a in
+        let p = l + m in
+        let g : Far p a = far-more l m a f in
+        let N = p + n in
+        let s = S p a in
+        let t = S N a in
+        let x : (q ⊞ o) ⊠ s ⊑ one ⊞ odd N a ⊠ t = ⊑-trans ((q ⊞ o) ⊠ s) (even n a ⊠ s) (one ⊞ odd N a ⊠ t) (mono-⊠ (q ⊞ o) (even n a) s s (⊑-trans (q ⊞ o) (q ⊞ odd n a ⊞ T n a) (even n a) (assoc q (odd n a) (T n a)) k) (⊑-refl s)) (even-in-odd p n a) in
+        let y : odd N a ⊠ t ⊑ o ⊠ (s ⊞ T p a) = mono-⊠ (odd N a) o t (s ⊞ T p a) (both-tail n N a h (le-add-left n p) .1) (S-tail p N a g) in
+        let z : q ⊠ s ⊞ o ⊠ s ⊑ one ⊞ o ⊠ T p a ⊞ o ⊠ s =
+        ⊑-trans (q ⊠ s ⊞ o ⊠ s) ((q ⊞ o) ⊠ s) (one ⊞ o ⊠ T p a ⊞ o ⊠ s) (join q o s)
+        (⊑-trans ((q ⊞ o) ⊠ s) (one ⊞ odd N a ⊠ t) (one ⊞ o ⊠ T p a ⊞ o ⊠ s) x
+        (⊑-trans (one ⊞ odd N a ⊠ t) (one ⊞ o ⊠ (s ⊞ T p a)) (one ⊞ o ⊠ T p a ⊞ o ⊠ s) (add-mono one one (odd N a ⊠ t) (o ⊠ (s ⊞ T p a)) (⊑-refl one) y) (gather one o s (T p a)))) in
+        let w : q ⊠ s ⊑ one ⊞ o ⊠ T p a = add-cancel (q ⊠ s) (one ⊞ o ⊠ T p a) (o ⊠ s) z in
+        ⊑-trans (q ⊠ S m a) (q ⊠ s) (one ⊞ o ⊠ T l a) (mono-⊠ q q (S m a) s (⊑-refl q) (S-mono m p a (le-add-left m l)))
+        (⊑-trans (q ⊠ s) (one ⊞ o ⊠ T p a) (one ⊞ o ⊠ T l a) w (add-mono one one (o ⊠ T p a) (o ⊠ T l a) (⊑-refl one) (mono-⊠ o o (T p a) (T l a) (⊑-refl o) (tail-anti l m a f))))

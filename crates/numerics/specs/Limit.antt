@@ -42,6 +42,12 @@ fall n (suc j) a h =
         → a .top ^ suc (suc (n + j)) * suc (suc j) * sumBot (suc n) (a .bot) ≤ a .top ^ suc n * sumBot (suc (suc (n + j))) (a .bot)
     step n j a h ih = unfold sumBot in rw (pow-suc (a .top) (suc (n + j))) (turn (a .top ^ suc n) (sumBot (suc n) (a .bot)) (a .top ^ suc (n + j)) (sumBot (suc (n + j)) (a .bot)) (a .top) (a .bot * suc (suc (n + j))) j h ih)
 
+pub tail-anti : (n j : ℕ) (a : Frac) → Far n a → T (n + j) a ⊑ T n a
+tail-anti n j a h = less (a .top ^ suc (n + j)) (sumBot (suc n) (a .bot)) (a .top ^ suc n) (sumBot (suc (n + j)) (a .bot)) j (fall n j a h)
+  where
+    less : (t B0 t0 B j : ℕ) → t * suc j * B0 ≤ t0 * B → 2 * t * B0 ≤ 2 * t0 * B
+    less t B0 t0 B j h = omega arith
+
 -- so T l * N is at most 1 for some l
 pub tail-small : (a : Frac) (N : ℕ) → (l : ℕ) × (Far l a × (T l a .top * N ≤ T l a .bot))
 tail-small a N =
