@@ -1,9 +1,12 @@
 -- The exact exponential and logarithm: the definitions that every stated distance rests on. "The exact exponential is defined by its power series over whole-number
 -- fractions with a bound on the cut tail; a logarithm by the exponential that it inverts." No real number is named: e ^ x is known by the fractions above and below it.
 -- `Exponentials` has the laws and the equal forms that proofs use, `Distance` the ways to show `Within` and `LnWithin`.
+use mathlib.Core.Bool.{true, false}
+use lib.Ieee.{Float, nan, inf, fin}
 use Prim.Native.Nat.{ℕ, zero, suc, _+_, _-_, _*_, _^_, _≤_, _<_}
 use native.Mathlib.Nat.{mul-pos}
 use Rattle.numerics.specs.Frac.{Frac, _⊑_, _⊞_, _⊠_}
+use Rattle.numerics.specs.Round.{val}
 use Rattle.numerics.specs.Series.{sumBot, sumBot-pos}
 
 -- a fraction of either sign: (plus - minus) / bot
@@ -12,6 +15,19 @@ pub record Signed : Type 0 where
   pub minus : ℕ
   pub bot : ℕ
   pub good : 0 < bot
+
+-- a and -a, and the value of a finite double
+abbrev pub plus-of : Frac → Signed
+plus-of a = record { plus = a .top; minus = 0; bot = a .bot; good = a .good }
+
+abbrev pub minus-of : Frac → Signed
+minus-of a = record { plus = 0; minus = a .top; bot = a .bot; good = a .good }
+
+abbrev pub signed : Float → Signed
+signed nan = plus-of (val nan)
+signed (inf s) = plus-of (val (inf s))
+signed (fin false m e) = plus-of (val (fin false m e))
+signed (fin true m e) = minus-of (val (fin true m e))
 
 -- |x|
 abbrev pub size : Signed → Frac

@@ -25,3 +25,4 @@ pub mod Poly
 pub mod Exponential
 pub mod Limit
 pub mod Alternating
+pub mod Exponentials
