@@ -26,3 +26,4 @@ pub mod Exponential
 pub mod Limit
 pub mod Alternating
 pub mod Exponentials
+pub mod Distance
