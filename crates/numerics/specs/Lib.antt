@@ -27,3 +27,4 @@ pub mod Limit
 pub mod Alternating
 pub mod Exponentials
 pub mod Distance
+pub mod ExponentialLaws
