@@ -27,31 +27,31 @@ abbrev pub _⊏_ : Frac → Frac → Type 0
 p ⊏ q = p .top * q .bot < q .top * p .bot
 
 -- ---- the sum, what it loses and the tail over the one denominator sumBot (suc n)
-abbrev G : ℕ → Signed → ℕ
+abbrev pub G : ℕ → Signed → ℕ
 G n x = sums n (x .plus) (x .minus) (x .bot) .0 * (x .bot * suc n)
 
-abbrev L : ℕ → Signed → ℕ
+abbrev pub L : ℕ → Signed → ℕ
 L n x = sums n (x .plus) (x .minus) (x .bot) .1 * (x .bot * suc n)
 
-abbrev t : ℕ → Signed → ℕ
+abbrev pub t : ℕ → Signed → ℕ
 t n x = tail n x .top
 
-above-plain : (n : ℕ) (x : Signed) (q : Frac) → (G n x + t n x) * q .bot ≤ q .top * sumBot (suc n) (x .bot) + L n x * q .bot → gain n x ⊞ tail n x ⊑ q ⊞ loss n x
+pub above-plain : (n : ℕ) (x : Signed) (q : Frac) → (G n x + t n x) * q .bot ≤ q .top * sumBot (suc n) (x .bot) + L n x * q .bot → gain n x ⊞ tail n x ⊑ q ⊞ loss n x
 unfolding sumBot
 above-plain n x q h = wide (sums n (x .plus) (x .minus) (x .bot) .0) (sums n (x .plus) (x .minus) (x .bot) .1) (sumBot n (x .bot)) (x .bot * suc n) (t n x) (q .top) (q .bot) h
   where
     wide : (g l B k t qt qb : ℕ) → (g * k + t) * qb ≤ qt * (B * k) + l * k * qb → (g * (B * k) + t * B) * (qb * B) ≤ (qt * B + l * qb) * (B * (B * k))
     wide g l B k t qt qb h = omega (arith, mul-le-mul-right (B * B) h)
 
-below-plain : (n : ℕ) (x : Signed) (q : Frac) → q .top * sumBot (suc n) (x .bot) + (L n x + t n x) * q .bot ≤ G n x * q .bot → q ⊞ loss n x ⊞ tail n x ⊑ gain n x
+pub below-plain : (n : ℕ) (x : Signed) (q : Frac) → q .top * sumBot (suc n) (x .bot) + (L n x + t n x) * q .bot ≤ G n x * q .bot → q ⊞ loss n x ⊞ tail n x ⊑ gain n x
 unfolding sumBot
 below-plain n x q h = wide (sums n (x .plus) (x .minus) (x .bot) .0) (sums n (x .plus) (x .minus) (x .bot) .1) (sumBot n (x .bot)) (x .bot * suc n) (t n x) (q .top) (q .bot) h
   where
     wide : (g l B k t qt qb : ℕ) → qt * (B * k) + (l * k + t) * qb ≤ g * k * qb → ((qt * B + l * qb) * (B * k) + t * (qb * B)) * B ≤ g * (qb * B * (B * k))
     wide g l B k t qt qb h = omega (arith, mul-le-mul-right (B * B) h)
 
--- n / b ^ n n!
-abbrev on : (n : ℕ) (x : Signed) → ℕ → Frac
+-- a over that denominator
+abbrev pub on : (n : ℕ) (x : Signed) → ℕ → Frac
 on n x a = record { top = a; bot = sumBot (suc n) (x .bot); good = sumBot-pos (suc n) (x .bot) (x .good) }
 
 split : (a b : ℕ) (A : Type 0) → (a ≤ b → A) → (b < a → A) → A
@@ -60,6 +60,9 @@ split a b A f g = go (leb a b) (leb→le a b) (nleb→lt a b)
     go : (z : Bool) → (dec.T z → a ≤ b) → (dec.T (not z) → b < a) → A
     go true p q = f (p tt)
     go false p q = g (q tt)
+
+pub monus : (a l D : ℕ) → a * D ≤ (a - l) * D + l * D
+monus a l D = split l a (a * D ≤ (a - l) * D + l * D) (λ h. omega (arith, ap (λ (z : ℕ). z * D) (add-sub-of-le h))) (λ h. omega (arith, mul-le-mul-right D (le-of-lt h)))
 
 module _ (x : Signed) (n : ℕ) (e : Enough n x) where
   abbrev D : ℕ
@@ -152,9 +155,6 @@ squeeze x N P =
     (λ h. let p = on n x (G n x - (L n x + t n x)) in (p, (q, ((n, (s .1 .0, below-plain n x p (less (G n x) (L n x + t n x) D h))), (above, near (G n x) (L n x) (t n x) D N h (s .1 .1))))))
     (λ h. let f = least-some x in (nat 0, (q, (below-of-least x (f .0) (nat 0) (f .1 .1) (more (f .0 .top) (f .0 .bot) (f .1 .0)), (above, close (G n x) (L n x) (t n x) D N h (s .1 .1))))))
   where
-    monus : (a l D : ℕ) → a * D ≤ (a - l) * D + l * D
-    monus a l D = split l a (a * D ≤ (a - l) * D + l * D) (λ h. omega (arith, ap (λ (z : ℕ). z * D) (add-sub-of-le h))) (λ h. omega (arith, mul-le-mul-right D (le-of-lt h)))
-
     less : (g a D : ℕ) → a ≤ g → (g - a) * D + a * D ≤ g * D
     less g a D h = omega (arith, ap (λ (z : ℕ). z * D) (add-sub-of-le h))
 

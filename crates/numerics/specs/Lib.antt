@@ -4,7 +4,7 @@ pub mod Iterate
 pub mod Fill
 pub mod Finite
 pub mod Ring
-pub mod RingTests
+pub mod Examples
 pub mod Frac
 pub mod Round
 pub mod Rel
