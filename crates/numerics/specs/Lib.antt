@@ -9,6 +9,7 @@ pub mod Frac
 pub mod Round
 pub mod Rel
 pub mod Fixed
+pub mod Rounding
 pub mod Conv
 pub mod Series
 pub mod Law
