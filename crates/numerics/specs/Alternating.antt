@@ -15,10 +15,10 @@ use Rattle.numerics.specs.Limit.{T, Far, far-more, tail-anti, limit}
 use Rattle.numerics.specs.Exponential.{powers, sums}
 
 -- ---- the powers of -a by their signs, and the sums of each kind
-abbrev evens : ℕ → ℕ → ℕ
+abbrev pub evens : ℕ → ℕ → ℕ
 evens a i = powers i 0 a .0
 
-abbrev odds : ℕ → ℕ → ℕ
+abbrev pub odds : ℕ → ℕ → ℕ
 odds a i = powers i 0 a .1
 
 abbrev pub even : ℕ → Frac → Frac
@@ -35,7 +35,7 @@ odds-next : (a i : ℕ) → odds a (suc i) ≡ evens a i * a
 unfolding powers
 odds-next a i = omega arith
 
-both-powers : (a i : ℕ) → evens a i + odds a i ≡ a ^ i
+pub both-powers : (a i : ℕ) → evens a i + odds a i ≡ a ^ i
 unfolding powers
 both-powers a zero = sym (pow-zero a)
 both-powers a (suc i) = rw (pow-suc a i) (omega (arith, ap (λ (z : ℕ). z * a) (both-powers a i)))

@@ -54,7 +54,7 @@ below-plain n x q h = wide (sums n (x .plus) (x .minus) (x .bot) .0) (sums n (x 
 abbrev pub on : (n : ℕ) (x : Signed) → ℕ → Frac
 on n x a = record { top = a; bot = sumBot (suc n) (x .bot); good = sumBot-pos (suc n) (x .bot) (x .good) }
 
-split : (a b : ℕ) (A : Type 0) → (a ≤ b → A) → (b < a → A) → A
+pub split : (a b : ℕ) (A : Type 0) → (a ≤ b → A) → (b < a → A) → A
 split a b A f g = go (leb a b) (leb→le a b) (nleb→lt a b)
   where
     go : (z : Bool) → (dec.T z → a ≤ b) → (dec.T (not z) → b < a) → A
@@ -129,7 +129,7 @@ below-of-least x f q a l =
     clear g l t ft fb qt qb D P a b c = le-of-mul-le-mul-right {k = fb} (omega (arith, mul-le-mul-right qb a, mul-le-mul-right D b, c)) P
 
 -- ---- e ^ x is above zero
-least-some : (x : Signed) → (l : Frac) × ((0 < l .top) × AtLeast x l)
+pub least-some : (x : Signed) → (l : Frac) × ((0 < l .top) × AtLeast x l)
 least-some x =
     let v = negatives x in
     let n = 2 * v .top in
@@ -290,7 +290,7 @@ module _ (x y : Signed) where
 abbrev pub times-of : ℕ → Signed → Signed
 times-of n x = record { plus = n * x .plus; minus = n * x .minus; bot = x .bot; good = x .good }
 
-next : (n : ℕ) (x : Signed) → Low (times-of (suc n) x) (sum-of x (times-of n x)) × Low (sum-of x (times-of n x)) (times-of (suc n) x)
+pub next : (n : ℕ) (x : Signed) → Low (times-of (suc n) x) (sum-of x (times-of n x)) × Low (sum-of x (times-of n x)) (times-of (suc n) x)
 next n x = (omega arith, omega arith)
 
 pub most-times : (n : ℕ) (x : Signed) (h : Frac) → AtMost x h → AtMost (times-of n x) (power n h)

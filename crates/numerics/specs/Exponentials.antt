@@ -29,7 +29,7 @@ abbrev pub AtLeast : Signed → Frac → Type 0
 AtLeast x l = (A : Frac) → Above (positives x) A → (m : ℕ) → l ⊠ S m (negatives x) ⊑ A
 
 -- ---- a partial sum depends on plus - minus only: where plus = minus + d
-powers-up : (n m d : ℕ) → powers n (m + d) m .0 ≡ powers n (m + d) m .1 + d ^ n
+pub powers-up : (n m d : ℕ) → powers n (m + d) m .0 ≡ powers n (m + d) m .1 + d ^ n
 unfolding powers
 powers-up zero m d = rw (pow-zero d) refl
 powers-up (suc n) m d = rw (pow-suc d n) (omega (arith, ap (λ (z : ℕ). z * d) (powers-up n m d)))
@@ -40,7 +40,7 @@ sums-up zero m d b = refl
 sums-up (suc n) m d b = omega (arith, ap (λ (z : ℕ). z * (b * suc n)) (sums-up n m d b), powers-up (suc n) m d)
 
 -- where minus = plus + d
-powers-down : (n p d : ℕ) → powers n p (p + d) .0 + powers n 0 d .1 ≡ powers n p (p + d) .1 + powers n 0 d .0
+pub powers-down : (n p d : ℕ) → powers n p (p + d) .0 + powers n 0 d .1 ≡ powers n p (p + d) .1 + powers n 0 d .0
 unfolding powers
 powers-down zero p d = refl
 powers-down (suc n) p d = omega (arith, ap (λ (z : ℕ). z * d) (powers-down n p d))
@@ -51,19 +51,19 @@ sums-down zero p d b = refl
 sums-down (suc n) p d b = omega (arith, ap (λ (z : ℕ). z * (b * suc n)) (sums-down n p d b), powers-down (suc n) p d)
 
 -- ---- so a bound of e ^ x is one of e ^ d or of 1 / e ^ d
-size-up : (m d : ℕ) → m + d - m + (m - (m + d)) ≡ d
+pub size-up : (m d : ℕ) → m + d - m + (m - (m + d)) ≡ d
 size-up m d = omega arith
 
-size-down : (p d : ℕ) → p - (p + d) + (p + d - p) ≡ d
+pub size-down : (p d : ℕ) → p - (p + d) + (p + d - p) ≡ d
 size-down p d = omega arith
 
-abbrev up : (m d b : ℕ) → 0 < b → Signed
+abbrev pub up : (m d b : ℕ) → 0 < b → Signed
 up m d b B = record { plus = m + d; minus = m; bot = b; good = B }
 
-abbrev down : (p d b : ℕ) → 0 < b → Signed
+abbrev pub down : (p d b : ℕ) → 0 < b → Signed
 down p d b B = record { plus = p; minus = p + d; bot = b; good = B }
 
-abbrev frac : (d b : ℕ) → 0 < b → Frac
+abbrev pub frac : (d b : ℕ) → 0 < b → Frac
 frac d b B = record { top = d; bot = b; good = B }
 
 module _ (m d b : ℕ) (B : 0 < b) (q : Frac) where
@@ -76,7 +76,7 @@ module _ (m d b : ℕ) (B : 0 < b) (q : Frac) where
       plain : (g l s B k t qt qb : ℕ) → 0 < B → g ≡ l + s → (g * (B * k) + t * B) * (qb * B) ≤ (qt * B + l * qb) * (B * (B * k)) → (s * k + t) * qb ≤ qt * (B * k)
       plain g l s B k t qt qb P e h = le-of-mul-le-mul-right {k = B * B} (omega (arith, h, ap (λ (z : ℕ). z * (B * B * k * qb)) e)) (mul-pos P P)
 
-  up-below : (n : ℕ) → q ⊞ loss n (up m d b B) ⊞ tail n (up m d b B) ⊑ gain n (up m d b B) → q ⊑ S n (frac d b B)
+  pub up-below : (n : ℕ) → q ⊞ loss n (up m d b B) ⊞ tail n (up m d b B) ⊑ gain n (up m d b B) → q ⊑ S n (frac d b B)
   unfolding sumBot
   up-below n h =
       plain (sums n (m + d) m b .0) (sums n (m + d) m b .1) (sumTop n d b) (sumBot n b) (b * suc n) (tail n (up m d b B) .top) (q .top) (q .bot) (sumBot-pos n b B) (mul-pos B (native.Mathlib.Nat.zero-lt-suc n)) (sums-up n m d b) h
@@ -140,14 +140,14 @@ module _ (m d b : ℕ) (B : 0 < b) (q : Frac) where
       turn q s t h = omega (arith, mul-le-mul-right (t .top * t .bot) h)
 
 -- ---- for any x
-by-sign : (P : ℕ → ℕ → Type 0) → ((m d : ℕ) → P (m + d) m) → ((p d : ℕ) → P p (p + d)) → (p m : ℕ) → P p m
+pub by-sign : (P : ℕ → ℕ → Type 0) → ((m d : ℕ) → P (m + d) m) → ((p d : ℕ) → P p (p + d)) → (p m : ℕ) → P p m
 by-sign P f g p m = go (leb m p) (leb→le m p) (nleb→lt m p)
   where
     go : (t : Bool) → (dec.T t → m ≤ p) → (dec.T (not t) → p < m) → P p m
     go true h k = subst (λ (z : ℕ). P z m) (add-sub-of-le (h tt)) (f m (p - m))
     go false h k = subst (λ (z : ℕ). P p z) (add-sub-of-le (le-of-lt (k tt))) (g p (m - p))
 
-abbrev of : (p m b : ℕ) → 0 < b → Signed
+abbrev pub of : (p m b : ℕ) → 0 < b → Signed
 of p m b B = record { plus = p; minus = m; bot = b; good = B }
 
 pub at-most : (x : Signed) (q : Frac) → AboveExp x q → AtMost x q

@@ -29,3 +29,4 @@ pub mod Alternating
 pub mod Exponentials
 pub mod Distance
 pub mod ExponentialLaws
+pub mod Strict
