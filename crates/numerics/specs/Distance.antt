@@ -51,7 +51,7 @@ one-above v A h = unfold sumTop sumBot in flat (A .top) (A .bot) (h 0)
     flat : (t b : ℕ) → 1 * b ≤ t * 1 → 1 * b ≤ t * 1
     flat t b h = h
 
-zero-one : (m b : ℕ) (B : 0 < b) (A : Frac) → nat 1 ⊑ A → S m (record { top = 0; bot = b; good = B }) ⊑ A
+pub zero-one : (m b : ℕ) (B : 0 < b) (A : Frac) → nat 1 ⊑ A → S m (record { top = 0; bot = b; good = B }) ⊑ A
 zero-one m b B A h = rw (zero-sum m b) (omega (arith, mul-le-mul-right (sumBot m b) h))
 
 pub most-plus : (a h : Frac) → Above a h → AtMost (plus-of a) h

@@ -61,7 +61,7 @@ tail-small a N =
         let x : t * suc (N * suc (2 * t0)) * 1 ≤ t0 * B = le-trans (mul-le-mul-left (t * suc (N * suc (2 * t0))) P) h in
         le-of-mul-le-mul-right {k = suc (2 * t0)} (omega (arith, x)) (omega arith)
 
-archimedes : (X Y C : ℕ) → ((N : ℕ) → N * X ≤ N * Y + C) → X ≤ Y
+pub archimedes : (X Y C : ℕ) → ((N : ℕ) → N * X ≤ N * Y + C) → X ≤ Y
 archimedes X Y C h = go (leb X Y) (leb→le X Y) (nleb→lt X Y)
   where
     go : (b : Bool) → (dec.T b → X ≤ Y) → (dec.T (not b) → Y < X) → X ≤ Y

@@ -173,16 +173,16 @@ room-below x q s a =
     strict g a qt qb D s S B k h = omega (arith, h, mul-pos S B, ap (λ (z : ℕ). z * qb) (add-sub-of-le k))
 
 -- ---- x = 0
-zero-of : (x : Signed) → size x .top ≡ 0 → x .plus ≡ x .minus
+pub zero-of : (x : Signed) → size x .top ≡ 0 → x .plus ≡ x .minus
 zero-of x z = go (x .plus) (x .minus) z
   where
     go : (p m : ℕ) → p - m + (m - p) ≡ 0 → p ≡ m
     go p m z = omega arith
 
-one-below : (x : Signed) (q : Frac) → size x .top ≡ 0 → AboveExp x q → nat 1 ⊑ q
+pub one-below : (x : Signed) (q : Frac) → size x .top ≡ 0 → AboveExp x q → nat 1 ⊑ q
 one-below x q z a = below-above-exp x (nat 1) q (exp-zero x (zero-of x z) .1) a
 
-one-above : (x : Signed) (q : Frac) → size x .top ≡ 0 → BelowExp x q → q ⊑ nat 1
+pub one-above : (x : Signed) (q : Frac) → size x .top ≡ 0 → BelowExp x q → q ⊑ nat 1
 one-above x q z a = below-above-exp x q (nat 1) a (exp-zero x (zero-of x z) .0)
 
 -- ---- e ^ (x + y)
