@@ -2,10 +2,11 @@
 -- fractions with a bound on the cut tail; a logarithm by the exponential that it inverts." No real number is named: e ^ x is known by the fractions above and below it.
 -- `Exponentials` has the laws and the equal forms that proofs use, `Distance` the ways to show `Within` and `LnWithin`.
 use mathlib.Core.Bool.{true, false}
+use mathlib.Core.Logic.{_⊎_}
 use lib.Ieee.{Float, nan, inf, fin}
 use Prim.Native.Nat.{ℕ, zero, suc, _+_, _-_, _*_, _^_, _≤_, _<_}
 use native.Mathlib.Nat.{mul-pos}
-use Rattle.numerics.specs.Frac.{Frac, _⊑_, _⊞_, _⊠_}
+use Rattle.numerics.specs.Frac.{Frac, _⊑_, _⊞_, _⊠_, nat}
 use Rattle.numerics.specs.Round.{val}
 use Rattle.numerics.specs.Series.{sumBot, sumBot-pos}
 
@@ -81,3 +82,13 @@ lowered r d = record { plus = r .plus * d .bot; minus = r .minus * d .bot + d .t
 pub record LnWithin (d x : Frac) (r : Signed) : Type 0 where
   pub low : (q : Frac) → BelowExp (lowered r d) q → q ⊑ x
   pub high : (q : Frac) → AboveExp (raised r d) q → x ⊑ q
+
+-- c is at most |ln x|: nothing below e ^ c exceeds x, or nothing below e ^ c exceeds 1 / x
+abbrev pub LnReaches : Frac → Frac → Type 0
+LnReaches c x = ((q : Frac) → BelowExp (plus-of c) q → q ⊑ x) ⊎ ((q : Frac) → BelowExp (plus-of c) q → q ⊠ x ⊑ nat 1)
+
+-- r is within ε × max(1, |ln x|) of ln x: within a d that is at most ε, or at most ε c for a c that |ln x| reaches
+pub record LnNear (ε x : Frac) (r : Signed) : Type 0 where
+  pub d : Frac
+  pub within : LnWithin d x r
+  pub small : (d ⊑ ε) ⊎ ((c : Frac) × (LnReaches c x × (d ⊑ ε ⊠ c)))

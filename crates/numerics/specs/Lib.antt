@@ -56,6 +56,8 @@ pub mod Strict
 pub mod Distance
 -- the convenient forms are the series with its tail's bound
 pub mod Equivalence
+-- ways to show `LnNear`
+pub mod Logarithm
 -- enclosures that antt computes; ln 2 to 110 places
 pub mod Eval
 -- ---- polynomials evaluated in doubles
