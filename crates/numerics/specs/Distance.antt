@@ -2,8 +2,10 @@
 --   within-of         from AtMost x h and AtLeast x l, for x of either sign, where (1 - ε) h ≤ r ≤ (1 + ε) l
 --   within-nonneg     the same from Above a h and Below a l, x = a
 --   within-neg        from Above a h and Below a l, x = -a, where r h ≤ 1 + ε and 1 - ε ≤ r l
+--   within-factor-of  from AtMost x (r c) and AtLeast x (r / c), for x of either sign, where c ≤ 1 + ε
 --   within-factor     from Above a (r c) and Below a (r / c), x = a, where c ≤ 1 + ε
 --   within-factor-neg from Above a (w c) and Below a (w / c), x = -a and r = 1 / w, where c ≤ 1 + ε
+--   most-quotient, least-quotient   bounds of e ^ s and of e ^ c as AtMost and AtLeast of x = s - c
 --   most-of-LE, least-of-LE    e ^ u ≤ h e ^ v and e ^ v ≤ h e ^ u (`LE` of module Exp) as AtMost and AtLeast of u - v
 --   ln-within-of      from LE y x δ and Below (y + δ) x: y is within δ of ln x
 --   ln-within-neg     from LE y (1 / x) δ and Below (y + δ) (1 / x): -y is within δ of ln x
@@ -17,6 +19,7 @@ use Rattle.numerics.specs.Series.{sumTop, sumBot, S, Above, Below, S-arg
 use Rattle.numerics.specs.Law.{mono-⊠, zero-sum}
 use Rattle.numerics.specs.Exp.{LE, inv}
 use Rattle.numerics.specs.Exponential.{Signed, plus-of, minus-of, raised, lowered, AboveExp, BelowExp, Within, LnWithin}
+use Rattle.numerics.specs.ExponentialLaws.{Low, most-arg, least-arg}
 use Rattle.numerics.specs.Exponentials.{positives, negatives, AtMost, AtLeast, at-most, at-least, least-most}
 
 -- ---- e ^ x
@@ -99,16 +102,21 @@ within-neg ε a r h l k b c d = record {
         (add-mono (r ⊠ (q ⊠ l)) r (ε ⊠ q) (ε ⊠ q) (omega (arith, mul-le-mul-right (r .top * r .bot) f)) (⊑-refl (ε ⊠ q))))
 
 -- ---- a result within a factor c of e ^ a or of its inverse
+upper : (rt rb t s et eb : ℕ) → s ≤ t → t * (1 * eb) ≤ (1 * eb + et * 1) * s → rt * t * (rb * (eb * (rb * s))) ≤ (rt * (eb * (rb * s)) + et * (rt * t) * rb) * (rb * s)
+upper rt rb t s et eb l h = omega (arith, mul-le-mul-right (rt * rb * rb * s) h, mul-le-mul-right (et * rt * rb * rb * s) l)
+
+lower : (rt rb t s et eb : ℕ) → t * (1 * eb) ≤ (1 * eb + et * 1) * s → rt * (rb * t * (eb * (rb * t))) ≤ (rt * s * (eb * (rb * t)) + et * (rt * s) * (rb * t)) * rb
+lower rt rb t s et eb h = omega (arith, mul-le-mul-right (rt * rb * rb * t) h)
+
 module _ (ε a c : Frac) (C : 0 < c .top) (from-one : c .bot ≤ c .top) (room : c ⊑ nat 1 ⊞ ε) where
   pub within-factor : (r : Frac) → Above a (r ⊠ c) → Below a (r ⊠ inv c C) → Within ε (plus-of a) r
   within-factor r k b =
       within-nonneg ε a r (r ⊠ c) (r ⊠ inv c C) k (upper (r .top) (r .bot) (c .top) (c .bot) (ε .top) (ε .bot) from-one room) b (lower (r .top) (r .bot) (c .top) (c .bot) (ε .top) (ε .bot) room)
-    where
-      upper : (rt rb t s et eb : ℕ) → s ≤ t → t * (1 * eb) ≤ (1 * eb + et * 1) * s → rt * t * (rb * (eb * (rb * s))) ≤ (rt * (eb * (rb * s)) + et * (rt * t) * rb) * (rb * s)
-      upper rt rb t s et eb l h = omega (arith, mul-le-mul-right (rt * rb * rb * s) h, mul-le-mul-right (et * rt * rb * rb * s) l)
 
-      lower : (rt rb t s et eb : ℕ) → t * (1 * eb) ≤ (1 * eb + et * 1) * s → rt * (rb * t * (eb * (rb * t))) ≤ (rt * s * (eb * (rb * t)) + et * (rt * s) * (rb * t)) * rb
-      lower rt rb t s et eb h = omega (arith, mul-le-mul-right (rt * rb * rb * t) h)
+  -- the same for x of either sign, from the convenient forms
+  pub within-factor-of : (x : Signed) (r : Frac) → 0 < r .top → AtMost x (r ⊠ c) → AtLeast x (r ⊠ inv c C) → Within ε x r
+  within-factor-of x r R k b =
+      within-of ε x r (r ⊠ c) (r ⊠ inv c C) (mul-pos R C) k (upper (r .top) (r .bot) (c .top) (c .bot) (ε .top) (ε .bot) from-one room) b (lower (r .top) (r .bot) (c .top) (c .bot) (ε .top) (ε .bot) room)
 
   -- w is close to e ^ a, and r = 1 / w
   pub within-factor-neg : (w r : Frac) → r ⊠ w ⊑ nat 1 → nat 1 ⊑ r ⊠ w → Above a (w ⊠ c) → Below a (w ⊠ inv c C) → Within ε (minus-of a) r
@@ -144,6 +152,24 @@ least-of-LE x u h v l p n k b A o m =
   where
     turn : (l h s : Frac) → l ⊠ h ⊑ nat 1 → l ⊠ (h ⊠ s) ⊑ s
     turn l h s b = omega (arith, mul-le-mul-right (s .top * s .bot) b)
+
+-- ---- e ^ s / e ^ c by a bound of each, for x = s - c
+abbrev pub difference : Frac → Frac → Signed
+difference s c = record { plus = s .top * c .bot; minus = c .top * s .bot; bot = s .bot * c .bot; good = mul-pos (s .good) (c .good) }
+
+pub most-quotient : (x : Signed) (s c P Q h : Frac) → Low x (difference s c) → Above s P → Below c Q → P ⊑ h ⊠ Q → AtMost x h
+most-quotient x s c P Q h l a b k =
+    most-arg x (difference s c) h l
+    (λ A o m. ⊑-trans (S m (positives (difference s c))) (S m s) (h ⊠ A) (S-arg m (positives (difference s c)) s (omega arith))
+    (⊑-trans (S m s) P (h ⊠ A) (a m)
+    (⊑-trans P (h ⊠ Q) (h ⊠ A) k (mono-⊠ h h Q A (⊑-refl h) (below-above c Q A b (above-arg c (negatives (difference s c)) A (omega arith) o))))))
+
+pub least-quotient : (x : Signed) (s c P Q l : Frac) → Low (difference s c) x → Below s P → Above c Q → l ⊠ Q ⊑ P → AtLeast x l
+least-quotient x s c P Q f l a b k =
+    least-arg (difference s c) x f l
+    (λ A o m. ⊑-trans (f ⊠ S m (negatives (difference s c))) (f ⊠ Q) A
+    (mono-⊠ f f (S m (negatives (difference s c))) Q (⊑-refl f) (⊑-trans (S m (negatives (difference s c))) (S m c) Q (S-arg m (negatives (difference s c)) c (omega arith)) (b m)))
+    (⊑-trans (f ⊠ Q) P A k (below-above s P A a (above-arg s (positives (difference s c)) A (omega arith) o))))
 
 -- ---- the logarithm
 pub ln-within : (d x : Frac) (r : Signed) → AtMost (lowered r d) x → AtLeast (raised r d) x → LnWithin d x r

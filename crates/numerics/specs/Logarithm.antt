@@ -1,4 +1,6 @@
--- Ways to show that r is within ε × max(1, |ln x|) of ln x (`LnNear`), where the distance that is known is measured by |r|.
+-- Ways to show that r is within ε × max(1, |ln x|) of ln x (`LnNear`).
+--   ln-near-of           r = y ≥ 0, from LE y x d, Below (y + d) x and d ≤ ε c, where c ≤ 1 or Above c x
+--   ln-near-of-inv       r = -y, from the same of 1 / x
 --   ln-weaken            a wider distance
 --   ln-near-plus         r = y ≥ 0, known to be within d ≤ δ × max(1, y), where δ (1 + ε) ≤ ε
 --   ln-near-minus        the same for r = -y
@@ -12,10 +14,12 @@ use Rattle.numerics.specs.Frac.{Frac, _⊑_, _⊞_, _⊠_, nat, ⊑-refl
 use Rattle.numerics.specs.Series.{Above, Below}
 use Rattle.numerics.specs.Law.{mono-⊠}
 use Rattle.numerics.specs.Rel.{less}
-use Rattle.numerics.specs.Exp.{inv}
+use Rattle.numerics.specs.Exp.{LE, inv}
 use Rattle.numerics.specs.Exponential.{Signed, plus-of, minus-of, raised, lowered, AboveExp, BelowExp, LnWithin, LnReaches, LnNear}
+use Rattle.numerics.specs.Exponentials.{at-least, least-most}
 use Rattle.numerics.specs.ExponentialLaws.{split}
 use Rattle.numerics.specs.Strict.{exp-above-arg, exp-below-arg}
+use Rattle.numerics.specs.Distance.{most-plus, ln-within-of, ln-within-neg}
 use Rattle.numerics.specs.Equivalence.{below-nonneg, above-neg}
 
 pub ln-weaken : (d d' x : Frac) (r : Signed) → d ⊑ d' → LnWithin d x r → LnWithin d' x r
@@ -106,3 +110,26 @@ module _ (ε δ d x y : Frac) (few : δ ⊠ (nat 1 ⊞ ε) ⊑ ε) (one : δ ⊑
   pub ln-near-minus : LnWithin d x (minus-of y) → LnNear ε x (minus-of y)
   ln-near-minus w = split (y .top) (y .bot) (LnNear ε x (minus-of y)) (λ h. record { d = d; within = w; small = inl (low-y h) })
       (λ h. let k = high-y h in record { d = d; within = w; small = inr (less y d, (reach-minus d x y (k .0) w, k .1)) })
+
+-- ---- from a distance ε c, where c ≤ 1 or c ≤ |ln x| by an upper bound of e ^ c
+pub reaches-of-above : (c x : Frac) → Above c x → LnReaches c x
+reaches-of-above c x h = inl (λ q k. least-most (plus-of c) q x (at-least (plus-of c) q k) (most-plus c x h))
+
+pub reaches-of-above-inv : (c x : Frac) (P : 0 < x .top) → Above c (inv x P) → LnReaches c x
+reaches-of-above-inv c x P h = inr (λ q k. turn q (least-most (plus-of c) q (inv x P) (at-least (plus-of c) q k) (most-plus c (inv x P) h)))
+  where
+    turn : (q : Frac) → q ⊑ inv x P → q ⊠ x ⊑ nat 1
+    turn q l = omega (arith, l)
+
+modest : (ε c d : Frac) → d ⊑ ε ⊠ c → c ⊑ nat 1 → d ⊑ ε
+modest ε c d h k = ⊑-trans d (ε ⊠ c) ε h (⊑-trans (ε ⊠ c) (ε ⊠ nat 1) ε (mono-⊠ ε ε c (nat 1) (⊑-refl ε) k) (omega arith))
+
+-- e ^ y ≤ x e ^ d and x ≤ e ^ (y + d)
+pub ln-near-of : (ε c d x y : Frac) → LE y x d → Below (y ⊞ d) x → d ⊑ ε ⊠ c → (c ⊑ nat 1) ⊎ Above c x → LnNear ε x (plus-of y)
+ln-near-of ε c d x y a b h (inl k) = record { d = d; within = ln-within-of d x y a b; small = inl (modest ε c d h k) }
+ln-near-of ε c d x y a b h (inr k) = record { d = d; within = ln-within-of d x y a b; small = inr (c, (reaches-of-above c x k, h)) }
+
+-- the same of 1 / x
+pub ln-near-of-inv : (ε c d x y : Frac) (P : 0 < x .top) → LE y (inv x P) d → Below (y ⊞ d) (inv x P) → d ⊑ ε ⊠ c → (c ⊑ nat 1) ⊎ Above c (inv x P) → LnNear ε x (minus-of y)
+ln-near-of-inv ε c d x y P a b h (inl k) = record { d = d; within = ln-within-neg d x y P a b; small = inl (modest ε c d h k) }
+ln-near-of-inv ε c d x y P a b h (inr k) = record { d = d; within = ln-within-neg d x y P a b; small = inr (c, (reaches-of-above-inv c x P k, h)) }
