@@ -108,15 +108,15 @@ upper rt rb t s et eb l h = omega (arith, mul-le-mul-right (rt * rb * rb * s) h,
 lower : (rt rb t s et eb : ℕ) → t * (1 * eb) ≤ (1 * eb + et * 1) * s → rt * (rb * t * (eb * (rb * t))) ≤ (rt * s * (eb * (rb * t)) + et * (rt * s) * (rb * t)) * rb
 lower rt rb t s et eb h = omega (arith, mul-le-mul-right (rt * rb * rb * t) h)
 
+-- for x of either sign, from the convenient forms
+pub within-factor-of : (ε c : Frac) (C : 0 < c .top) → c .bot ≤ c .top → c ⊑ nat 1 ⊞ ε → (x : Signed) (r : Frac) → 0 < r .top → AtMost x (r ⊠ c) → AtLeast x (r ⊠ inv c C) → Within ε x r
+within-factor-of ε c C from-one room x r R k b =
+    within-of ε x r (r ⊠ c) (r ⊠ inv c C) (mul-pos R C) k (upper (r .top) (r .bot) (c .top) (c .bot) (ε .top) (ε .bot) from-one room) b (lower (r .top) (r .bot) (c .top) (c .bot) (ε .top) (ε .bot) room)
+
 module _ (ε a c : Frac) (C : 0 < c .top) (from-one : c .bot ≤ c .top) (room : c ⊑ nat 1 ⊞ ε) where
   pub within-factor : (r : Frac) → Above a (r ⊠ c) → Below a (r ⊠ inv c C) → Within ε (plus-of a) r
   within-factor r k b =
       within-nonneg ε a r (r ⊠ c) (r ⊠ inv c C) k (upper (r .top) (r .bot) (c .top) (c .bot) (ε .top) (ε .bot) from-one room) b (lower (r .top) (r .bot) (c .top) (c .bot) (ε .top) (ε .bot) room)
-
-  -- the same for x of either sign, from the convenient forms
-  pub within-factor-of : (x : Signed) (r : Frac) → 0 < r .top → AtMost x (r ⊠ c) → AtLeast x (r ⊠ inv c C) → Within ε x r
-  within-factor-of x r R k b =
-      within-of ε x r (r ⊠ c) (r ⊠ inv c C) (mul-pos R C) k (upper (r .top) (r .bot) (c .top) (c .bot) (ε .top) (ε .bot) from-one room) b (lower (r .top) (r .bot) (c .top) (c .bot) (ε .top) (ε .bot) room)
 
   -- w is close to e ^ a, and r = 1 / w
   pub within-factor-neg : (w r : Frac) → r ⊠ w ⊑ nat 1 → nat 1 ⊑ r ⊠ w → Above a (w ⊠ c) → Below a (w ⊠ inv c C) → Within ε (minus-of a) r
