@@ -19,8 +19,8 @@ use Rattle.numerics.specs.Series.{sumTop, sumBot, S, Above, Below, S-arg
 use Rattle.numerics.specs.Law.{mono-⊠, zero-sum}
 use Rattle.numerics.specs.Exp.{LE, inv}
 use Rattle.numerics.specs.Exponential.{Signed, plus-of, minus-of, raised, lowered, AboveExp, BelowExp, Within, LnWithin}
-use Rattle.numerics.specs.ExponentialLaws.{Low, most-arg, least-arg}
-use Rattle.numerics.specs.Exponentials.{positives, negatives, AtMost, AtLeast, at-most, at-least, least-most}
+use Rattle.numerics.specs.ExpBoundLaws.{Low, most-arg, least-arg}
+use Rattle.numerics.specs.ExpBounds.{positives, negatives, AtMost, AtLeast, at-most, at-least, least-most}
 
 -- ---- e ^ x
 above-pos : (a h : Frac) → Above a h → 0 < h .top

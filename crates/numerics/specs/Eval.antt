@@ -11,7 +11,7 @@ use Rattle.numerics.specs.Frac.{Frac, _⊑_, nat, ⊑-refl}
 use Rattle.numerics.specs.Series.{sumTop, sumBot, S, U, Above, Below, above-by, below-by}
 use Rattle.numerics.specs.Limit.{Far}
 use Rattle.numerics.specs.Exponential.{Signed, plus-of, raised, lowered, powers, sums, gain, loss, tail, Enough, AboveExp, BelowExp, LnWithin}
-use Rattle.numerics.specs.ExponentialLaws.{G, L, t, on, above-plain, below-plain, monus, most-arg, least-arg}
+use Rattle.numerics.specs.ExpBoundLaws.{G, L, t, on, above-plain, below-plain, monus, most-arg, least-arg}
 use Rattle.numerics.specs.Distance.{most-plus, least-plus, ln-within}
 
 -- ---- the evaluator

@@ -1,6 +1,6 @@
 -- The exact exponential and logarithm: the definitions that every stated distance rests on. "The exact exponential is defined by its power series over whole-number
 -- fractions with a bound on the cut tail; a logarithm by the exponential that it inverts." No real number is named: e ^ x is known by the fractions above and below it.
--- `Exponentials` has the laws and the equal forms that proofs use, `Distance` the ways to show `Within` and `LnWithin`.
+-- `ExponentialLaws` has the laws, `Equivalence` the equal forms that proofs use, `Distance` and `Logarithm` the ways to show a distance.
 use mathlib.Core.Bool.{true, false}
 use mathlib.Core.Logic.{_⊎_}
 use lib.Ieee.{Float, nan, inf, fin}

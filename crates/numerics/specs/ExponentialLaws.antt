@@ -1,306 +1,324 @@
--- Laws of the exact exponential, for x of either sign.
---   above-of-most, below-of-least   what is more than an `AtMost` lies above e ^ x, what is less than an `AtLeast` lies below: with at-most and at-least of `Exponentials`, the forms are equal
---   squeeze                         the two kinds of bound come arbitrarily close
---   exp-zero                        1 lies above and below e ^ 0
---   most-arg, least-arg             monotony
---   most-sum, least-sum             bounds of e ^ x and of e ^ y multiply to bounds of e ^ (x + y)
---   most-times, least-times         and to bounds of e ^ (n x)
--- Assumes nothing.
-use mathlib.Core.Path.{_≡_, refl, sym, ap, ap₂, _∙_, subst}
+-- Laws of `AboveExp` and `BelowExp` themselves, for x and y of either sign:
+--   below-above-exp (ExpBounds), squeeze, exp-zero (ExpBoundLaws)   nothing below exceeds anything above; the two come arbitrarily close; e ^ 0 = 1
+--   exp-above-pos                    what lies above e ^ x is not 0
+--   exp-above-more, exp-below-less   a bound may be loosened
+--   exp-above-sum, exp-below-sum     bounds of e ^ x and e ^ y multiply to bounds of e ^ (x + y)
+--   exp-above-arg, exp-below-arg     monotony
+--   exp-above-times, exp-below-times   powers of a bound are bounds of e ^ (n x)
+-- They rest on this: where x is not 0 there is a smaller q below each q above e ^ x (`room-above`), and a larger above each q below it (`room-below`), since with two terms more the sum
+-- with the tail's bound falls and the sum less it grows. Assumes nothing.
+use mathlib.Core.Path.{_≡_, refl, sym, ap, _∙_, subst}
 use mathlib.Core.Logic.{_⊎_, inl, inr}
 use Prim.Native.Nat.{ℕ, zero, suc, _+_, _-_, _*_, _^_, _≤_, _<_}
-use native.Mathlib.Nat.{le-refl, le-trans, le-of-eq, le-of-lt, lt-of-lt-of-le, mul-pos, mul-one, one-mul, zero-lt-suc, mul-le-mul, mul-le-mul-right, mul-le-mul-left, le-of-mul-le-mul-right, pow-suc, pow-zero, add-sub-of-le, eq-zero-or-pos}
+use native.Mathlib.Nat.{le-refl, le-trans, le-of-eq, le-of-lt, lt-of-lt-of-le, lt-of-le-of-lt, mul-pos, mul-le-mul, mul-le-mul-right, mul-le-mul-left, le-of-mul-le-mul-right, lt-of-mul-lt-mul-right, mul-lt-mul-of-pos-right, pow-suc, one-le-pow, add-sub-of-le, eq-zero-or-pos}
 use native.Mathlib.Omega.{arith}
-use mathlib.Core.Bool.{Bool, true, false, not}
-use lib.Dec.{leb, leb→le, nleb→lt, lit≤}
-use lib.Dec as dec
-use Rattle.numerics.specs.Frac.{Frac, _⊑_, _⊞_, _⊠_, nat, ⊑-refl, ⊑-trans, add-mono, add-cancel}
-use Rattle.numerics.specs.Series.{sumTop, sumBot, sumBot-pos, S, U, Above, Below, S-mono, S-arg, above-by, above-arg}
-use Rattle.numerics.specs.Law.{mono-⊠, law-lower, law-upper, above-mul, over, above-div, power}
-use Rattle.numerics.specs.Limit.{T, Far, far-first, tail-small}
+use Rattle.numerics.specs.Frac.{Frac, _⊑_, _⊏_, _⊞_, _⊠_, nat, ⊑-refl, ⊑-trans, add-mono}
+use Rattle.numerics.specs.Series.{sumTop, sumBot, sumBot-pos, S, U, Above, above-by, S-arg, above-arg}
+use Rattle.numerics.specs.Law.{mono-⊠, law-upper, power}
+use Rattle.numerics.specs.Limit.{far-first}
+use Rattle.numerics.specs.Alternating.{both-powers}
 use Rattle.numerics.specs.Exponential.{Signed, size, powers, sums, gain, loss, tail, Enough, AboveExp, BelowExp}
-use Rattle.numerics.specs.Exponentials.{positives, negatives, AtMost, AtLeast, at-most, at-least, least-most, cancel-exp}
-use Rattle.numerics.specs.Tail.{S-one}
+use Rattle.numerics.specs.ExpBounds.{positives, negatives, AtMost, AtLeast, at-most, at-least, least-most, below-above-exp, by-sign, of, powers-up, powers-down, size-up, size-down}
+use Rattle.numerics.specs.ExpBoundLaws.{G, L, t, on, above-plain, below-plain, split, monus, above-of-most, below-of-least, least-some, exp-zero, Low, most-arg, least-arg, sum-of, most-sum, least-sum, times-of, next}
 
-infix 4 _⊏_
-abbrev pub _⊏_ : Frac → Frac → Type 0
-p ⊏ q = p .top * q .bot < q .top * p .bot
+-- ---- a power's two parts differ by |x| ^ k
+powers-near : (k p m : ℕ) → (powers k p m .0 ≤ powers k p m .1 + (p - m + (m - p)) ^ k) × (powers k p m .1 ≤ powers k p m .0 + (p - m + (m - p)) ^ k)
+powers-near k = by-sign (λ p m. (powers k p m .0 ≤ powers k p m .1 + (p - m + (m - p)) ^ k) × (powers k p m .1 ≤ powers k p m .0 + (p - m + (m - p)) ^ k)) upward downward
+  where
+    upward : (m d : ℕ) → (powers k (m + d) m .0 ≤ powers k (m + d) m .1 + (m + d - m + (m - (m + d))) ^ k) × (powers k (m + d) m .1 ≤ powers k (m + d) m .0 + (m + d - m + (m - (m + d))) ^ k)
+    upward m d = let e = powers-up k m d in rw (size-up m d) (omega arith, omega arith)
 
--- ---- the sum, what it loses and the tail over the one denominator sumBot (suc n)
-abbrev pub G : ℕ → Signed → ℕ
-G n x = sums n (x .plus) (x .minus) (x .bot) .0 * (x .bot * suc n)
+    downward : (p d : ℕ) → (powers k p (p + d) .0 ≤ powers k p (p + d) .1 + (p - (p + d) + (p + d - p)) ^ k) × (powers k p (p + d) .1 ≤ powers k p (p + d) .0 + (p - (p + d) + (p + d - p)) ^ k)
+    downward p d = let e = powers-down k p d in let f = both-powers d k in rw (size-down p d) (omega arith, omega arith)
 
-abbrev pub L : ℕ → Signed → ℕ
-L n x = sums n (x .plus) (x .minus) (x .bot) .1 * (x .bot * suc n)
+-- ---- one term more
+-- the sum and what it loses over the next denominator
+next-G : (n : ℕ) (x : Signed) → G (suc n) x ≡ (G n x + powers (suc n) (x .plus) (x .minus) .0) * (x .bot * suc (suc n))
+unfolding sums
+next-G n x = refl
 
-abbrev pub t : ℕ → Signed → ℕ
-t n x = tail n x .top
+next-L : (n : ℕ) (x : Signed) → L (suc n) x ≡ (L n x + powers (suc n) (x .plus) (x .minus) .1) * (x .bot * suc (suc n))
+unfolding sums
+next-L n x = refl
 
-pub above-plain : (n : ℕ) (x : Signed) (q : Frac) → (G n x + t n x) * q .bot ≤ q .top * sumBot (suc n) (x .bot) + L n x * q .bot → gain n x ⊞ tail n x ⊑ q ⊞ loss n x
+next-D : (n : ℕ) (x : Signed) → sumBot (suc (suc n)) (x .bot) ≡ sumBot (suc n) (x .bot) * (x .bot * suc (suc n))
 unfolding sumBot
-above-plain n x q h = wide (sums n (x .plus) (x .minus) (x .bot) .0) (sums n (x .plus) (x .minus) (x .bot) .1) (sumBot n (x .bot)) (x .bot * suc n) (t n x) (q .top) (q .bot) h
-  where
-    wide : (g l B k t qt qb : ℕ) → (g * k + t) * qb ≤ qt * (B * k) + l * k * qb → (g * (B * k) + t * B) * (qb * B) ≤ (qt * B + l * qb) * (B * (B * k))
-    wide g l B k t qt qb h = omega (arith, mul-le-mul-right (B * B) h)
+next-D n x = refl
 
-pub below-plain : (n : ℕ) (x : Signed) (q : Frac) → q .top * sumBot (suc n) (x .bot) + (L n x + t n x) * q .bot ≤ G n x * q .bot → q ⊞ loss n x ⊞ tail n x ⊑ gain n x
+-- the tail's bound falls by more than the term that is added; by `w` more where n + 2 is over 2 |x| by w
+fall : (P M s s' k w : ℕ) → P ≤ M + s → s' * 2 + w * s ≤ k * s → P * k + 2 * s' + w * s ≤ 2 * s * k + M * k
+fall P M s s' k w h l = omega (arith, mul-le-mul-right k h, l)
+
+tail-falls : (n : ℕ) (x : Signed) (w : ℕ) → 2 * size x .top + w ≤ x .bot * suc (suc n) → size x .top ^ suc (suc n) * 2 + w * size x .top ^ suc n ≤ x .bot * suc (suc n) * size x .top ^ suc n
+tail-falls n x w h = rw (pow-suc (size x .top) (suc n)) (turn (size x .top) (size x .top ^ suc n) w (x .bot * suc (suc n)) h)
+  where
+    turn : (a s w k : ℕ) → 2 * a + w ≤ k → s * a * 2 + w * s ≤ k * s
+    turn a s w k h = omega (arith, mul-le-mul-right s h)
+
+-- an order G + t ≤ Q + L over D, one term later, with w |x| ^ (n + 1) to spare
+later-above : (n : ℕ) (x : Signed) (q : Frac) (w : ℕ) → 2 * size x .top + w ≤ x .bot * suc (suc n) → (G n x + t n x) * q .bot ≤ q .top * sumBot (suc n) (x .bot) + L n x * q .bot
+    → (G (suc n) x + t (suc n) x) * q .bot + w * size x .top ^ suc n * q .bot ≤ q .top * sumBot (suc (suc n)) (x .bot) + L (suc n) x * q .bot
+later-above n x q w e h =
+    rw (next-G n x, next-L n x, next-D n x)
+    (turn (G n x) (L n x) (powers (suc n) (x .plus) (x .minus) .0) (powers (suc n) (x .plus) (x .minus) .1) (size x .top ^ suc n) (size x .top ^ suc (suc n)) (x .bot * suc (suc n)) w (q .top) (q .bot) (sumBot (suc n) (x .bot)) h
+    (fall (powers (suc n) (x .plus) (x .minus) .0) (powers (suc n) (x .plus) (x .minus) .1) (size x .top ^ suc n) (size x .top ^ suc (suc n)) (x .bot * suc (suc n)) w (powers-near (suc n) (x .plus) (x .minus) .0) (tail-falls n x w e)))
+  where
+    turn : (g l P M s s' k w qt qb D : ℕ) → (g + 2 * s) * qb ≤ qt * D + l * qb → P * k + 2 * s' + w * s ≤ 2 * s * k + M * k
+        → ((g + P) * k + 2 * s') * qb + w * s * qb ≤ qt * (D * k) + (l + M) * k * qb
+    turn g l P M s s' k w qt qb D h f = omega (arith, mul-le-mul-right k h, mul-le-mul-right qb f)
+
+later-below : (n : ℕ) (x : Signed) (q : Frac) (w : ℕ) → 2 * size x .top + w ≤ x .bot * suc (suc n) → q .top * sumBot (suc n) (x .bot) + (L n x + t n x) * q .bot ≤ G n x * q .bot
+    → q .top * sumBot (suc (suc n)) (x .bot) + (L (suc n) x + t (suc n) x) * q .bot + w * size x .top ^ suc n * q .bot ≤ G (suc n) x * q .bot
+later-below n x q w e h =
+    rw (next-G n x, next-L n x, next-D n x)
+    (turn (G n x) (L n x) (powers (suc n) (x .plus) (x .minus) .0) (powers (suc n) (x .plus) (x .minus) .1) (size x .top ^ suc n) (size x .top ^ suc (suc n)) (x .bot * suc (suc n)) w (q .top) (q .bot) (sumBot (suc n) (x .bot)) h
+    (fall (powers (suc n) (x .plus) (x .minus) .1) (powers (suc n) (x .plus) (x .minus) .0) (size x .top ^ suc n) (size x .top ^ suc (suc n)) (x .bot * suc (suc n)) w (powers-near (suc n) (x .plus) (x .minus) .1) (tail-falls n x w e)))
+  where
+    turn : (g l P M s s' k w qt qb D : ℕ) → qt * D + (l + 2 * s) * qb ≤ g * qb → M * k + 2 * s' + w * s ≤ 2 * s * k + P * k
+        → qt * (D * k) + ((l + M) * k + 2 * s') * qb + w * s * qb ≤ (g + P) * k * qb
+    turn g l P M s s' k w qt qb D h f = omega (arith, mul-le-mul-right k h, mul-le-mul-right qb f)
+
+-- ---- back from the fractions
+plain-above : (n : ℕ) (x : Signed) (q : Frac) → gain n x ⊞ tail n x ⊑ q ⊞ loss n x → (G n x + t n x) * q .bot ≤ q .top * sumBot (suc n) (x .bot) + L n x * q .bot
 unfolding sumBot
-below-plain n x q h = wide (sums n (x .plus) (x .minus) (x .bot) .0) (sums n (x .plus) (x .minus) (x .bot) .1) (sumBot n (x .bot)) (x .bot * suc n) (t n x) (q .top) (q .bot) h
+plain-above n x q h = thin (sums n (x .plus) (x .minus) (x .bot) .0) (sums n (x .plus) (x .minus) (x .bot) .1) (sumBot n (x .bot)) (x .bot * suc n) (t n x) (q .top) (q .bot) (sumBot-pos n (x .bot) (x .good)) h
   where
-    wide : (g l B k t qt qb : ℕ) → qt * (B * k) + (l * k + t) * qb ≤ g * k * qb → ((qt * B + l * qb) * (B * k) + t * (qb * B)) * B ≤ g * (qb * B * (B * k))
-    wide g l B k t qt qb h = omega (arith, mul-le-mul-right (B * B) h)
+    thin : (g l B k t qt qb : ℕ) → 0 < B → (g * (B * k) + t * B) * (qb * B) ≤ (qt * B + l * qb) * (B * (B * k)) → (g * k + t) * qb ≤ qt * (B * k) + l * k * qb
+    thin g l B k t qt qb P h = le-of-mul-le-mul-right {k = B * B} (omega (arith, h)) (mul-pos P P)
 
--- a over that denominator
-abbrev pub on : (n : ℕ) (x : Signed) → ℕ → Frac
-on n x a = record { top = a; bot = sumBot (suc n) (x .bot); good = sumBot-pos (suc n) (x .bot) (x .good) }
-
-pub split : (a b : ℕ) (A : Type 0) → (a ≤ b → A) → (b < a → A) → A
-split a b A f g = go (leb a b) (leb→le a b) (nleb→lt a b)
+plain-below : (n : ℕ) (x : Signed) (q : Frac) → q ⊞ loss n x ⊞ tail n x ⊑ gain n x → q .top * sumBot (suc n) (x .bot) + (L n x + t n x) * q .bot ≤ G n x * q .bot
+unfolding sumBot
+plain-below n x q h = thin (sums n (x .plus) (x .minus) (x .bot) .0) (sums n (x .plus) (x .minus) (x .bot) .1) (sumBot n (x .bot)) (x .bot * suc n) (t n x) (q .top) (q .bot) (sumBot-pos n (x .bot) (x .good)) h
   where
-    go : (z : Bool) → (dec.T z → a ≤ b) → (dec.T (not z) → b < a) → A
-    go true p q = f (p tt)
-    go false p q = g (q tt)
+    thin : (g l B k t qt qb : ℕ) → 0 < B → ((qt * B + l * qb) * (B * k) + t * (qb * B)) * B ≤ g * (qb * B * (B * k)) → qt * (B * k) + (l * k + t) * qb ≤ g * k * qb
+    thin g l B k t qt qb P h = le-of-mul-le-mul-right {k = B * B} (omega (arith, h)) (mul-pos P P)
 
-pub monus : (a l D : ℕ) → a * D ≤ (a - l) * D + l * D
-monus a l D = split l a (a * D ≤ (a - l) * D + l * D) (λ h. omega (arith, ap (λ (z : ℕ). z * D) (add-sub-of-le h))) (λ h. omega (arith, mul-le-mul-right D (le-of-lt h)))
-
-module _ (x : Signed) (n : ℕ) (e : Enough n x) where
-  abbrev D : ℕ
-  D = sumBot (suc n) (x .bot)
-
-  -- the sum less the tail's bound is at most every h that e ^ x is at most
-  sum-most : (h : Frac) → AtMost x h → G n x * h .bot ≤ h .top * D + (L n x + t n x) * h .bot
-  sum-most h a = split (L n x + t n x) (G n x) (G n x * h .bot ≤ h .top * D + (L n x + t n x) * h .bot) there (λ g. omega (arith, mul-le-mul-right (h .bot) (le-of-lt g)))
-    where
-      there : L n x + t n x ≤ G n x → G n x * h .bot ≤ h .top * D + (L n x + t n x) * h .bot
-      there g =
-          let r = G n x - (L n x + t n x) in
-          let s : L n x + t n x + r ≡ G n x = add-sub-of-le g in
-          let b : BelowExp x (on n x r) = (n, (e, below-plain n x (on n x r) (omega (arith, ap (λ (z : ℕ). z * D) s)))) in
-          let k : r * h .bot ≤ h .top * D = least-most x (on n x r) h (at-least x (on n x r) b) a in
-          omega (arith, k, ap (λ (z : ℕ). z * h .bot) s)
-
-  -- the sum with the tail's bound is at least every l that e ^ x is at least
-  sum-least : (l : Frac) → AtLeast x l → 0 < l .top → l .top * D + L n x * l .bot ≤ (G n x + t n x) * l .bot
-  sum-least l a P = split (L n x) (G n x + t n x) (l .top * D + L n x * l .bot ≤ (G n x + t n x) * l .bot) there (λ g. absurd (clash g))
-    where
-      under : (r : ℕ) → G n x + t n x ≤ L n x + r → l .top * D ≤ r * l .bot
-      under r h = least-most x l (on n x r) a (at-most x (on n x r) (n, (e, above-plain n x (on n x r) (omega (arith, mul-le-mul-right D h)))))
-
-      there : L n x ≤ G n x + t n x → l .top * D + L n x * l .bot ≤ (G n x + t n x) * l .bot
-      there g =
-          let r = G n x + t n x - L n x in
-          let s : L n x + r ≡ G n x + t n x = add-sub-of-le g in
-          omega (arith, under r (le-of-eq (sym s)), ap (λ (z : ℕ). z * l .bot) s)
-
-      clash : G n x + t n x < L n x → ⊥
-      clash g = none (l .top) D (l .bot) (mul-pos P (sumBot-pos (suc n) (x .bot) (x .good))) (under 0 (omega arith))
-        where
-          none : (a d b : ℕ) → 0 < a * d → a * d ≤ 0 * b → ⊥
-          none a d b p h = omega arith
-
--- ---- from the convenient forms to the series
-pub above-of-most : (x : Signed) (h q : Frac) → AtMost x h → h ⊏ q → AboveExp x q
-above-of-most x h q a l =
-    let s = tail-small (size x) (2 * (q .bot * h .bot)) in
-    let n = s .0 in
-    (n, (s .1 .0, above-plain n x q (clear (G n x) (L n x) (t n x) (h .top) (h .bot) (q .top) (q .bot) (sumBot (suc n) (x .bot)) (h .good) (sum-most x n (s .1 .0) h a) l (s .1 .1))))
+-- ---- what lies above is not 0
+pub exp-above-pos : (x : Signed) (q : Frac) → AboveExp x q → 0 < q .top
+exp-above-pos x q h =
+    let f = least-some x in
+    some (f .0) q (f .1 .0) (least-most x (f .0) q (f .1 .1) (at-most x q h))
   where
-    clear : (g l t ht hb qt qb D : ℕ) → 0 < hb → g * hb ≤ ht * D + (l + t) * hb → ht * qb < qt * hb → t * (2 * (qb * hb)) ≤ D → (g + t) * qb ≤ qt * D + l * qb
-    clear g l t ht hb qt qb D P a b c = le-of-mul-le-mul-right {k = hb} (omega (arith, mul-le-mul-right qb a, mul-le-mul-right D b, c)) P
-
-pub below-of-least : (x : Signed) (l q : Frac) → AtLeast x l → q ⊏ l → BelowExp x q
-below-of-least x f q a l =
-    let s = tail-small (size x) (2 * (q .bot * f .bot)) in
-    let n = s .0 in
-    (n, (s .1 .0, below-plain n x q (clear (G n x) (L n x) (t n x) (f .top) (f .bot) (q .top) (q .bot) (sumBot (suc n) (x .bot)) (f .good) (sum-least x n (s .1 .0) f a (pos (q .top * f .bot) (f .top) (q .bot) l)) l (s .1 .1))))
-  where
-    pos : (z a b : ℕ) → z < a * b → 0 < a
-    pos z a b h = go (eq-zero-or-pos a)
+    some : (f q : Frac) → 0 < f .top → f ⊑ q → 0 < q .top
+    some f q P h = go (eq-zero-or-pos (q .top))
       where
-        go : (a ≡ 0) ⊎ (0 < a) → 0 < a
-        go (inl e) = absurd (none (a * b) (z) h (ap (λ (y : ℕ). y * b) e))
-          where
-            none : (y z : ℕ) → z < y → y ≡ 0 * b → ⊥
-            none y z h e = omega arith
+        go : (q .top ≡ 0) ⊎ (0 < q .top) → 0 < q .top
         go (inr p) = p
+        go (inl z) = absurd (none (f .top * q .bot) (f .bot) (mul-pos P (q .good)) (rw z at h))
+          where
+            none : (a b : ℕ) → 0 < a → a ≤ 0 * b → ⊥
+            none a b p h = omega arith
 
-    clear : (g l t ft fb qt qb D : ℕ) → 0 < fb → ft * D + l * fb ≤ (g + t) * fb → qt * fb < ft * qb → t * (2 * (qb * fb)) ≤ D → qt * D + (l + t) * qb ≤ g * qb
-    clear g l t ft fb qt qb D P a b c = le-of-mul-le-mul-right {k = fb} (omega (arith, mul-le-mul-right qb a, mul-le-mul-right D b, c)) P
+pub exp-above-more : (x : Signed) (p q : Frac) → p ⊑ q → AboveExp x p → AboveExp x q
+exp-above-more x p q h (n, k) = (n, (k .0, ⊑-trans (gain n x ⊞ tail n x) (p ⊞ loss n x) (q ⊞ loss n x) (k .1) (add-mono p q (loss n x) (loss n x) h (⊑-refl (loss n x)))))
 
--- ---- e ^ x is above zero
-pub least-some : (x : Signed) → (l : Frac) × ((0 < l .top) × AtLeast x l)
-least-some x =
-    let v = negatives x in
-    let n = 2 * v .top in
-    let a : Above v (U n v) = above-by n v (U n v) (far-first v) (⊑-refl (U n v)) in
-    let P : 0 < U n v .top = some (U n v) (unfold sumTop sumBot in a 0) in
-    (record { top = U n v .bot; bot = U n v .top; good = P }, (U n v .good, λ A o m. turn (U n v) (S m v) A (a m) (unfold sumTop sumBot in o 0)))
+pub exp-below-less : (x : Signed) (p q : Frac) → q ⊑ p → BelowExp x p → BelowExp x q
+exp-below-less x p q h (n, k) = (n, (k .0, ⊑-trans (q ⊞ loss n x ⊞ tail n x) (p ⊞ loss n x ⊞ tail n x) (gain n x) (add-mono (q ⊞ loss n x) (p ⊞ loss n x) (tail n x) (tail n x) (add-mono q p (loss n x) (loss n x) h (⊑-refl (loss n x))) (⊑-refl (tail n x))) (k .1)))
+
+-- ---- two terms more leave room
+enough-next : (n : ℕ) (x : Signed) → Enough n x → 2 * size x .top + 1 ≤ x .bot * suc (suc (suc n))
+enough-next n x e = go (size x .top) (x .bot) (x .good) e
   where
-    some : (q : Frac) → 1 * q .bot ≤ q .top * 1 → 0 < q .top
-    some q h = omega (arith, q .good)
+    go : (s b : ℕ) → 0 < b → 2 * s ≤ b * suc (suc n) → 2 * s + 1 ≤ b * suc (suc (suc n))
+    go s b B h = omega (arith, h, B)
 
-    turn : (q s A : Frac) → s ⊑ q → 1 * A .bot ≤ A .top * 1 → q .bot * s .top * A .bot ≤ A .top * (q .top * s .bot)
-    turn q s A h o = let k : A .bot ≤ A .top = omega arith in omega (arith, mul-le-mul-right (A .bot) h, mul-le-mul-left (q .top * s .bot) k)
+enough-later : (n : ℕ) (x : Signed) → Enough n x → Enough (suc (suc n)) x
+enough-later n x e = le-trans e (mul-le-mul-left (x .bot) (omega arith))
 
--- ---- the two kinds of bound come within 1 / N of each other
-pub squeeze : (x : Signed) (N : ℕ) (P : 0 < N) → (p : Frac) × ((q : Frac) × (BelowExp x p × (AboveExp x q × (q ⊑ p ⊞ record { top = 1; bot = N; good = P }))))
-squeeze x N P =
-    let s = tail-small (size x) (2 * N) in
-    let n = s .0 in
-    let D = sumBot (suc n) (x .bot) in
-    let q = on n x (G n x + t n x - L n x) in
-    let above : AboveExp x q = (n, (s .1 .0, above-plain n x q (monus (G n x + t n x) (L n x) D))) in
-    split (L n x + t n x) (G n x) ((p : Frac) × ((q : Frac) × (BelowExp x p × (AboveExp x q × (q ⊑ p ⊞ record { top = 1; bot = N; good = P })))))
-    (λ h. let p = on n x (G n x - (L n x + t n x)) in (p, (q, ((n, (s .1 .0, below-plain n x p (less (G n x) (L n x + t n x) D h))), (above, near (G n x) (L n x) (t n x) D N h (s .1 .1))))))
-    (λ h. let f = least-some x in (nat 0, (q, (below-of-least x (f .0) (nat 0) (f .1 .1) (more (f .0 .top) (f .0 .bot) (f .1 .0)), (above, close (G n x) (L n x) (t n x) D N h (s .1 .1))))))
+pub room-above : (x : Signed) (q : Frac) → 0 < size x .top → AboveExp x q → (p : Frac) × ((p ⊏ q) × AtMost x p)
+room-above x q s a =
+    let n = a .0 in
+    let e = a .1 .0 in
+    let one = later-above n x q 0 (le-trans (le-of-eq (native.Mathlib.Nat.add-zero (2 * size x .top))) e) (plain-above n x q (a .1 .1)) in
+    let two = later-above (suc n) x q 1 (enough-next n x e) (le-trans (first ((G (suc n) x + t (suc n) x) * q .bot) (size x .top ^ suc n) (q .bot)) one) in
+    let m = suc (suc n) in
+    let D = sumBot (suc m) (x .bot) in
+    let r = G m x + t m x - L m x in
+    let f : Enough m x = enough-later n x e in
+    (on m x r, (strict (G m x + t m x) (L m x) (q .top) (q .bot) D (size x .top ^ suc (suc n)) (one-le-pow (suc (suc n)) (size x .top) s) (q .good) (mul-pos (exp-above-pos x q a) (sumBot-pos (suc m) (x .bot) (x .good))) two, at-most x (on m x r) (m, (f, above-plain m x (on m x r) (monus (G m x + t m x) (L m x) D)))))
   where
-    less : (g a D : ℕ) → a ≤ g → (g - a) * D + a * D ≤ g * D
-    less g a D h = omega (arith, ap (λ (z : ℕ). z * D) (add-sub-of-le h))
+    first : (a s b : ℕ) → a ≤ a + 0 * s * b
+    first a s b = omega arith
 
-    more : (t b : ℕ) → 0 < t → 0 * b < t * 1
-    more t b h = omega arith
-
-    near : (g l t D N : ℕ) → l + t ≤ g → t * (2 * N) ≤ D → (g + t - l) * (D * N) ≤ ((g - (l + t)) * N + 1 * D) * D
-    near g l t D N h k = go (g - (l + t)) (add-sub-of-le h)
+    strict : (a l qt qb D s : ℕ) → 0 < s → 0 < qb → 0 < qt * D → a * qb + 1 * s * qb ≤ qt * D + l * qb → (a - l) * qb < qt * D
+    strict a l qt qb D s S B P h =
+        split l a ((a - l) * qb < qt * D) (λ k. omega (arith, h, mul-pos S B, ap (λ (z : ℕ). z * qb) (add-sub-of-le k)))
+        (λ k. rw (none a l k) (omega arith))
       where
-        twice : (r : ℕ) → l + t + r ≡ g → g + t - l ≡ r + 2 * t
-        twice r e = omega arith
+        none : (a l : ℕ) → a < l → a - l ≡ 0
+        none a l k = omega arith
 
-        go : (r : ℕ) → l + t + r ≡ g → (g + t - l) * (D * N) ≤ (r * N + 1 * D) * D
-        go r e = rw (twice r e) (omega (arith, mul-le-mul-right D k))
-
-    close : (g l t D N : ℕ) → g < l + t → t * (2 * N) ≤ D → (g + t - l) * (1 * N) ≤ (0 * N + 1 * 1) * D
-    close g l t D N h k = le-trans (mul-le-mul-right (1 * N) bound) (omega arith)
-      where
-        bound : g + t - l ≤ 2 * t
-        bound = omega arith
-
--- ---- e ^ 0 = 1
-zero-plain : (x : Signed) → size x .top ≡ 0 → ((G 0 x + t 0 x) * 1 ≤ 1 * sumBot 1 (x .bot) + L 0 x * 1) × (1 * sumBot 1 (x .bot) + (L 0 x + t 0 x) * 1 ≤ G 0 x * 1)
-unfolding sums sumBot
-zero-plain x z = (rw z (omega arith), rw z (omega arith))
-
-pub exp-zero : (x : Signed) → x .plus ≡ x .minus → AboveExp x (nat 1) × BelowExp x (nat 1)
-exp-zero x e =
-    let z : size x .top ≡ 0 = nothing (x .plus) (x .minus) e in
-    let k = zero-plain x z in
-    let n : Enough 0 x = rw z (omega arith) in
-    ((0, (n, above-plain 0 x (nat 1) (k .0))), (0, (n, below-plain 0 x (nat 1) (k .1))))
+pub room-below : (x : Signed) (q : Frac) → 0 < size x .top → BelowExp x q → (p : Frac) × ((q ⊏ p) × AtLeast x p)
+room-below x q s a =
+    let n = a .0 in
+    let e = a .1 .0 in
+    let one = later-below n x q 0 (le-trans (le-of-eq (native.Mathlib.Nat.add-zero (2 * size x .top))) e) (plain-below n x q (a .1 .1)) in
+    let two = later-below (suc n) x q 1 (enough-next n x e) (le-trans (first (q .top * sumBot (suc (suc n)) (x .bot) + (L (suc n) x + t (suc n) x) * q .bot) (size x .top ^ suc n) (q .bot)) one) in
+    let m = suc (suc n) in
+    let D = sumBot (suc m) (x .bot) in
+    let r = G m x - (L m x + t m x) in
+    let w = (L m x + t m x) * q .bot + 1 * size x .top ^ suc (suc n) * q .bot in
+    let c : L m x + t m x ≤ G m x = le-of-mul-le-mul-right {k = q .bot} (le-trans (part (q .top * D) ((L m x + t m x) * q .bot) (1 * size x .top ^ suc (suc n) * q .bot)) two) (q .good) in
+    (on m x r, (strict (G m x) (L m x + t m x) (q .top) (q .bot) D (size x .top ^ suc (suc n)) (one-le-pow (suc (suc n)) (size x .top) s) (q .good) c two, at-least x (on m x r) (m, (enough-later n x e, below-plain m x (on m x r) (whole (G m x) (L m x + t m x) D c)))))
   where
-    nothing : (p m : ℕ) → p ≡ m → p - m + (m - p) ≡ 0
-    nothing p m e = omega arith
+    first : (a s b : ℕ) → a ≤ a + 0 * s * b
+    first a s b = omega arith
 
--- ---- monotony: x ≤ y
-abbrev pub Low : Signed → Signed → Type 0
-Low x y = positives x ⊞ negatives y ⊑ positives y ⊞ negatives x
+    part : (a b c : ℕ) → b ≤ a + b + c
+    part a b c = omega arith
 
-pub most-arg : (x y : Signed) (h : Frac) → Low x y → AtMost y h → AtMost x h
-most-arg x y h l a A o m = cancel-exp (negatives y) (S m (positives x)) (h ⊠ A) each
+    whole : (g a D : ℕ) → a ≤ g → (g - a) * D + a * D ≤ g * D
+    whole g a D h = omega (arith, ap (λ (z : ℕ). z * D) (add-sub-of-le h))
+
+    strict : (g a qt qb D s : ℕ) → 0 < s → 0 < qb → a ≤ g → qt * D + a * qb + 1 * s * qb ≤ g * qb → qt * D < (g - a) * qb
+    strict g a qt qb D s S B k h = omega (arith, h, mul-pos S B, ap (λ (z : ℕ). z * qb) (add-sub-of-le k))
+
+-- ---- x = 0
+pub zero-of : (x : Signed) → size x .top ≡ 0 → x .plus ≡ x .minus
+zero-of x z = go (x .plus) (x .minus) z
   where
-    each : (B : Frac) → Above (negatives y) B → (k : ℕ) → S m (positives x) ⊠ S k (negatives y) ⊑ h ⊠ A ⊠ B
-    each B b k =
-        let s = S m (positives x) ⊠ S k (negatives y) in
-        let w = positives x ⊞ negatives y in
-        let z = positives y ⊞ negatives x in
-        ⊑-trans s (S (k + m) w) (h ⊠ A ⊠ B) (law-upper m k (positives x) (negatives y))
-        (⊑-trans (S (k + m) w) (S (k + m) z) (h ⊠ A ⊠ B) (S-arg (k + m) w z l)
-        (⊑-trans (S (k + m) z) (h ⊠ B ⊠ A) (h ⊠ A ⊠ B) (above-mul (positives y) (negatives x) (h ⊠ B) A (a B b) o (k + m)) (omega arith)))
+    go : (p m : ℕ) → p - m + (m - p) ≡ 0 → p ≡ m
+    go p m z = omega arith
 
-pub least-arg : (x y : Signed) (l : Frac) → Low x y → AtLeast x l → AtLeast y l
-least-arg x y f l a A o m = cancel-exp (negatives x) (f ⊠ S m (negatives y)) A each
-  where
-    turn : (f s t A B : Frac) (P : 0 < t .top) → f ⊠ s ⊑ over (A ⊠ B) t P → f ⊠ t ⊠ s ⊑ A ⊠ B
-    turn f s t A B P h = omega (arith, h)
+pub one-below : (x : Signed) (q : Frac) → size x .top ≡ 0 → AboveExp x q → nat 1 ⊑ q
+one-below x q z a = below-above-exp x (nat 1) q (exp-zero x (zero-of x z) .1) a
 
-    each : (B : Frac) → Above (negatives x) B → (k : ℕ) → f ⊠ S m (negatives y) ⊠ S k (negatives x) ⊑ A ⊠ B
-    each B b k =
-        let s = S m (negatives y) in
-        let P : 0 < s .top = lt-of-lt-of-le (s .good) (S-one m (negatives y)) in
-        let w : Above (positives x ⊞ negatives y) (A ⊠ B) = above-arg (positives x ⊞ negatives y) (positives y ⊞ negatives x) (A ⊠ B) l (above-mul (positives y) (negatives x) A B o b) in
-        turn f (S k (negatives x)) s A B P (a (over (A ⊠ B) s P) (above-div (positives x) (negatives y) (A ⊠ B) s P w (m, ⊑-refl s)) k)
+pub one-above : (x : Signed) (q : Frac) → size x .top ≡ 0 → BelowExp x q → q ⊑ nat 1
+one-above x q z a = below-above-exp x q (nat 1) a (exp-zero x (zero-of x z) .0)
 
 -- ---- e ^ (x + y)
-abbrev pub sum-of : Signed → Signed → Signed
-sum-of x y = record { plus = x .plus * y .bot + y .plus * x .bot; minus = x .minus * y .bot + y .minus * x .bot; bot = x .bot * y .bot; good = mul-pos (x .good) (y .good) }
+times-less : (p p' q : Frac) → 0 < q .top → p ⊏ p' → p ⊠ q ⊏ p' ⊠ q
+times-less p p' q Q h = turn (p .top) (p .bot) (p' .top) (p' .bot) (q .top) (q .bot) (mul-lt-mul-of-pos-right h (mul-pos Q (q .good)))
+  where
+    turn : (a b c d e f : ℕ) → a * d * (e * f) < c * b * (e * f) → a * e * (d * f) < c * e * (b * f)
+    turn a b c d e f h = omega (arith, h)
 
-swap : (p q : Frac) → p ⊞ q ⊑ q ⊞ p
-swap p q = omega arith
+swap-less : (p p' q : Frac) → p ⊠ q ⊏ p' ⊠ q → q ⊠ p ⊏ q ⊠ p'
+swap-less p p' q h = omega (arith, h)
 
-module _ (x y : Signed) where
-  pub most-sum : (h k : Frac) → AtMost x h → AtMost y k → AtMost (sum-of x y) (h ⊠ k)
-  most-sum h k a b A o m =
-      let u = positives x in
-      let s = S m u in
-      let P : 0 < s .top = lt-of-lt-of-le (s .good) (S-one m u) in
-      ⊑-trans (S m (u ⊞ positives y)) (s ⊠ S m (positives y)) (h ⊠ k ⊠ A) (law-lower m u (positives y)) (turn (S m (positives y)) (h ⊠ A) s P (b (over (h ⊠ A) s P) (other s P (⊑-refl s)) m))
-    where
-      turn : (q r s : Frac) (P : 0 < s .top) → q ⊑ k ⊠ over (h ⊠ A) s P → s ⊠ q ⊑ h ⊠ k ⊠ A
-      turn q r s P g = omega (arith, g)
+flat-sum : (x y : Signed) → size x .top ≡ 0 → size y .top ≡ 0 → sum-of x y .plus ≡ sum-of x y .minus
+flat-sum x y z w = let e = zero-of x z in let f = zero-of y w in omega (arith, ap (λ (k : ℕ). k * y .bot) e, ap (λ (k : ℕ). k * x .bot) f)
 
-      side : (j : ℕ) → S m (positives x) ⊠ S j (negatives y) ⊑ h ⊠ A
-      side j =
-          let r = S j (negatives y) in
-          let R : 0 < r .top = lt-of-lt-of-le (r .good) (S-one j (negatives y)) in
-          back (S m (positives x)) r R (a (over A r R) (above-div (negatives x) (negatives y) A r R o (j, ⊑-refl r)) m)
-        where
-          back : (s r : Frac) (R : 0 < r .top) → s ⊑ h ⊠ over A r R → s ⊠ r ⊑ h ⊠ A
-          back s r R g = omega (arith, g)
+pub exp-above-sum : (x y : Signed) (p q : Frac) → AboveExp x p → AboveExp y q → AboveExp (sum-of x y) (p ⊠ q)
+exp-above-sum x y p q a b = go (eq-zero-or-pos (size x .top)) (eq-zero-or-pos (size y .top))
+  where
+    go : (size x .top ≡ 0) ⊎ (0 < size x .top) → (size y .top ≡ 0) ⊎ (0 < size y .top) → AboveExp (sum-of x y) (p ⊠ q)
+    go (inr s) k =
+        let r = room-above x p s a in
+        above-of-most (sum-of x y) (r .0 ⊠ q) (p ⊠ q) (most-sum x y (r .0) q (r .1 .1) (at-most y q b)) (times-less (r .0) p q (exp-above-pos y q b) (r .1 .0))
+    go (inl z) (inr s) =
+        let r = room-above y q s b in
+        above-of-most (sum-of x y) (p ⊠ r .0) (p ⊠ q) (most-sum x y p (r .0) (at-most x p a) (r .1 .1)) (swap-less (r .0) q p (times-less (r .0) q p (exp-above-pos x p a) (r .1 .0)))
+    go (inl z) (inl w) =
+        exp-above-more (sum-of x y) (nat 1) (p ⊠ q) (mono-⊠ (nat 1) p (nat 1) q (one-below x p z a) (one-below y q w b)) (exp-zero (sum-of x y) (flat-sum x y z w) .0)
 
-      other : (s : Frac) (P : 0 < s .top) → s ⊑ S m (positives x) → Above (negatives y) (over (h ⊠ A) s P)
-      other s P g j = back (S j (negatives y)) (⊑-trans (s ⊠ S j (negatives y)) (S m (positives x) ⊠ S j (negatives y)) (h ⊠ A) (mono-⊠ s (S m (positives x)) (S j (negatives y)) (S j (negatives y)) g (⊑-refl (S j (negatives y)))) (side j))
-        where
-          back : (r : Frac) → s ⊠ r ⊑ h ⊠ A → r ⊑ over (h ⊠ A) s P
-          back r g = omega (arith, g)
+-- 0 lies below every e ^ x
+none-below : (x : Signed) (q : Frac) → q .top ≡ 0 → BelowExp x q
+none-below x q z = let f = least-some x in below-of-least x (f .0) q (f .1 .1) (rw z (less (f .0 .bot) (f .0 .top) (q .bot) (mul-pos (f .1 .0) (q .good))))
+  where
+    less : (b t c : ℕ) → 0 < t * c → 0 * b < t * c
+    less b t c h = omega arith
 
-  pub least-sum : (f g : Frac) → AtLeast x f → AtLeast y g → AtLeast (sum-of x y) (f ⊠ g)
-  least-sum f g a b A o m =
-      ⊑-trans (f ⊠ g ⊠ S m (negatives x ⊞ negatives y)) (f ⊠ g ⊠ (S m (negatives x) ⊠ S m (negatives y))) A
-      (mono-⊠ (f ⊠ g) (f ⊠ g) (S m (negatives x ⊞ negatives y)) (S m (negatives x) ⊠ S m (negatives y)) (⊑-refl (f ⊠ g)) (law-lower m (negatives x) (negatives y)))
-      (by-size (eq-zero-or-pos (f .top)))
-    where
-      side : (j : ℕ) → f ⊠ S m (negatives x) ⊠ S j (positives y) ⊑ A
-      side j =
-          let r = S j (positives y) in
-          let R : 0 < r .top = lt-of-lt-of-le (r .good) (S-one j (positives y)) in
-          back (S m (negatives x)) r R (a (over A r R) (above-div (positives x) (positives y) A r R o (j, ⊑-refl r)) m)
-        where
-          back : (s r : Frac) (R : 0 < r .top) → f ⊠ s ⊑ over A r R → f ⊠ s ⊠ r ⊑ A
-          back s r R h = omega (arith, h)
+pub exp-below-sum : (x y : Signed) (p q : Frac) → BelowExp x p → BelowExp y q → BelowExp (sum-of x y) (p ⊠ q)
+exp-below-sum x y p q a b = go (eq-zero-or-pos (size x .top)) (eq-zero-or-pos (size y .top)) (eq-zero-or-pos (p .top)) (eq-zero-or-pos (q .top))
+  where
+    go : (size x .top ≡ 0) ⊎ (0 < size x .top) → (size y .top ≡ 0) ⊎ (0 < size y .top) → (p .top ≡ 0) ⊎ (0 < p .top) → (q .top ≡ 0) ⊎ (0 < q .top) → BelowExp (sum-of x y) (p ⊠ q)
+    go i j (inl e) l = none-below (sum-of x y) (p ⊠ q) (rw e (omega arith))
+    go i j (inr P) (inl e) = none-below (sum-of x y) (p ⊠ q) (rw e (omega arith))
+    go (inr s) j (inr P) (inr Q) =
+        let r = room-below x p s a in
+        below-of-least (sum-of x y) (r .0 ⊠ q) (p ⊠ q) (least-sum x y (r .0) q (r .1 .1) (at-least y q b)) (times-less p (r .0) q Q (r .1 .0))
+    go (inl z) (inr s) (inr P) (inr Q) =
+        let r = room-below y q s b in
+        below-of-least (sum-of x y) (p ⊠ r .0) (p ⊠ q) (least-sum x y p (r .0) (at-least x p a) (r .1 .1)) (swap-less q (r .0) p (times-less q (r .0) p P (r .1 .0)))
+    go (inl z) (inl w) (inr P) (inr Q) =
+        exp-below-less (sum-of x y) (nat 1) (p ⊠ q) (mono-⊠ p (nat 1) q (nat 1) (one-above x p z a) (one-above y q w b)) (exp-zero (sum-of x y) (flat-sum x y z w) .1)
 
-      by-size : (f .top ≡ 0) ⊎ (0 < f .top) → f ⊠ g ⊠ (S m (negatives x) ⊠ S m (negatives y)) ⊑ A
-      by-size (inl z) = rw z (nothing (g .top) (S m (negatives x) .top * S m (negatives y) .top * A .bot) (S m (negatives x) .top * S m (negatives y) .top) (A .bot) (A .top * (f .bot * g .bot * (S m (negatives x) .bot * S m (negatives y) .bot))))
-        where
-          nothing : (g r p q y : ℕ) → 0 * g * p * q ≤ y
-          nothing g r p q y = omega arith
-      by-size (inr P) =
-          let s = S m (negatives x) in
-          let Q : 0 < s .top = lt-of-lt-of-le (s .good) (S-one m (negatives x)) in
-          let F = f ⊠ s in
-          let W : 0 < F .top = mul-pos P Q in
-          turn s (S m (negatives y)) W (b (over A F W) (λ j. back s (S j (positives y)) W (side j)) m)
-        where
-          back : (s r : Frac) (W : 0 < f .top * s .top) → f ⊠ s ⊠ r ⊑ A → r .top * (f .top * s .top * A .bot) ≤ A .top * (f .bot * s .bot) * r .bot
-          back s r W h = omega (arith, h)
+-- ---- monotony
+-- e ^ -a ≤ 1 / (1 + a) and 1 + a ≤ e ^ a
+one-more : (d b : ℕ) (B : 0 < b) → (S 1 (record { top = d; bot = b; good = B }) .top ≡ b + d) × (S 1 (record { top = d; bot = b; good = B }) .bot ≡ b)
+unfolding sumTop sumBot
+one-more d b B = (rw (pow-suc d 0, native.Mathlib.Nat.pow-zero d) (omega arith), omega arith)
 
-          turn : (s r : Frac) (W : 0 < f .top * s .top) → g .top * r .top * (f .top * s .top * A .bot) ≤ A .top * (f .bot * s .bot) * (g .bot * r .bot) → f ⊠ g ⊠ (s ⊠ r) ⊑ A
-          turn s r W h = omega (arith, h)
+most-negative : (x : Signed) → x .plus ≤ x .minus → AtMost x (record { top = x .bot; bot = x .bot + (x .minus - x .plus); good = le-trans (x .good) (native.Mathlib.Nat.le-add-right (x .bot) (x .minus - x .plus)) })
+most-negative x h A o m =
+    let d = x .minus - x .plus in
+    let a : Frac = record { top = d; bot = x .bot; good = x .good } in
+    let u = positives x in
+    let e = one-more d (x .bot) (x .good) in
+    let k : S m u ⊠ S 1 a ⊑ A = ⊑-trans (S m u ⊠ S 1 a) (S (1 + m) (u ⊞ a)) A (law-upper m 1 u a) (⊑-trans (S (1 + m) (u ⊞ a)) (S (1 + m) (negatives x)) A (S-arg (1 + m) (u ⊞ a) (negatives x) (fits (x .plus) (x .minus) d (x .bot) (add-sub-of-le h))) (o (1 + m))) in
+    turn (S m u .top) (S m u .bot) (A .top) (A .bot) (x .bot) (x .bot + d) (rw (e .0, e .1) at k)
+  where
+    fits : (p m d b : ℕ) → p + d ≡ m → (p * b + d * b) * b ≤ m * (b * b)
+    fits p m d b e = omega (arith, ap (λ (z : ℕ). z * (b * b)) e)
+
+    turn : (s s' A A' b c : ℕ) → s * c * A' ≤ A * (s' * b) → s * (c * A') ≤ b * A * s'
+    turn s s' A A' b c h = omega (arith, h)
+
+least-positive : (x : Signed) → x .minus ≤ x .plus → AtLeast x (record { top = x .bot + (x .plus - x .minus); bot = x .bot; good = x .good })
+least-positive x h A o m =
+    let d = x .plus - x .minus in
+    let a : Frac = record { top = d; bot = x .bot; good = x .good } in
+    let v = negatives x in
+    let e = one-more d (x .bot) (x .good) in
+    let k : S 1 a ⊠ S m v ⊑ A = ⊑-trans (S 1 a ⊠ S m v) (S (m + 1) (a ⊞ v)) A (law-upper 1 m a v) (⊑-trans (S (m + 1) (a ⊞ v)) (S (m + 1) (positives x)) A (S-arg (m + 1) (a ⊞ v) (positives x) (fits (x .minus) (x .plus) d (x .bot) (add-sub-of-le h))) (o (m + 1))) in
+    rw (e .0, e .1) at k
+  where
+    fits : (m p d b : ℕ) → m + d ≡ p → (d * b + m * b) * b ≤ p * (b * b)
+    fits m p d b e = omega (arith, ap (λ (z : ℕ). z * (b * b)) e)
+
+-- against an argument that is 0
+low-zero : (x y : Signed) → Low x y → y .plus ≡ y .minus → x .plus ≤ x .minus
+low-zero x y l e = clear (x .plus) (x .minus) (x .bot) (y .plus) (y .minus) (y .bot) (x .good) (y .good) e l
+  where
+    clear : (p m b r n c : ℕ) → 0 < b → 0 < c → r ≡ n → (p * c + n * b) * (c * b) ≤ (r * b + m * c) * (b * c) → p ≤ m
+    clear p m b r n c B C e h = le-of-mul-le-mul-right {k = c * (b * c)} (omega (arith, h, ap (λ (z : ℕ). z * (b * (b * c))) e)) (mul-pos C (mul-pos B C))
+
+zero-low : (x y : Signed) → Low x y → x .plus ≡ x .minus → y .minus ≤ y .plus
+zero-low x y l e = clear (x .plus) (x .minus) (x .bot) (y .plus) (y .minus) (y .bot) (x .good) (y .good) e l
+  where
+    clear : (p m b r n c : ℕ) → 0 < b → 0 < c → p ≡ m → (p * c + n * b) * (c * b) ≤ (r * b + m * c) * (b * c) → n ≤ r
+    clear p m b r n c B C e h = le-of-mul-le-mul-right {k = b * (b * c)} (omega (arith, h, ap (λ (z : ℕ). z * (c * (b * c))) e)) (mul-pos B (mul-pos B C))
+
+pub exp-above-arg : (x y : Signed) (q : Frac) → Low x y → AboveExp y q → AboveExp x q
+exp-above-arg x y q l a = go (eq-zero-or-pos (size y .top)) (eq-zero-or-pos (size x .top))
+  where
+    go : (size y .top ≡ 0) ⊎ (0 < size y .top) → (size x .top ≡ 0) ⊎ (0 < size x .top) → AboveExp x q
+    go (inr s) k = let r = room-above y q s a in above-of-most x (r .0) q (most-arg x y (r .0) l (r .1 .1)) (r .1 .0)
+    go (inl z) (inl w) = exp-above-more x (nat 1) q (one-below y q z a) (exp-zero x (zero-of x w) .0)
+    go (inl z) (inr s) =
+        let h = low-zero x y l (zero-of y z) in
+        above-of-most x (record { top = x .bot; bot = x .bot + (x .minus - x .plus); good = le-trans (x .good) (native.Mathlib.Nat.le-add-right (x .bot) (x .minus - x .plus)) }) q (most-negative x h) (less (x .plus) (x .minus) (x .bot) (q .top) (q .bot) h s (q .good) (one-below y q z a))
+      where
+        less : (p m b qt qb : ℕ) → p ≤ m → 0 < p - m + (m - p) → 0 < qb → 1 * qb ≤ qt * 1 → b * qb < qt * (b + (m - p))
+        less p m b qt qb h s Q k =
+            let d : 0 < m - p = omega arith in
+            let w : qb ≤ qt = omega arith in
+            omega (arith, mul-le-mul-right b w, mul-pos (lt-of-lt-of-le Q w) d)
+
+pub exp-below-arg : (x y : Signed) (q : Frac) → Low x y → BelowExp x q → BelowExp y q
+exp-below-arg x y q l a = go (eq-zero-or-pos (size x .top)) (eq-zero-or-pos (size y .top))
+  where
+    go : (size x .top ≡ 0) ⊎ (0 < size x .top) → (size y .top ≡ 0) ⊎ (0 < size y .top) → BelowExp y q
+    go (inr s) k = let r = room-below x q s a in below-of-least y (r .0) q (least-arg x y (r .0) l (r .1 .1)) (r .1 .0)
+    go (inl z) (inl w) = exp-below-less y (nat 1) q (one-above x q z a) (exp-zero y (zero-of y w) .1)
+    go (inl z) (inr s) =
+        let h = zero-low x y l (zero-of x z) in
+        below-of-least y (record { top = y .bot + (y .plus - y .minus); bot = y .bot; good = y .good }) q (least-positive y h) (less (y .plus) (y .minus) (y .bot) (q .top) (q .bot) h s (q .good) (one-above x q z a))
+      where
+        less : (p m b qt qb : ℕ) → m ≤ p → 0 < p - m + (m - p) → 0 < qb → qt * 1 ≤ 1 * qb → qt * b < (b + (p - m)) * qb
+        less p m b qt qb h s Q k =
+            let d : 0 < p - m = omega arith in
+            let w : qt ≤ qb = omega arith in
+            omega (arith, mul-le-mul-right b w, mul-pos d Q)
 
 -- ---- e ^ (n x)
-abbrev pub times-of : ℕ → Signed → Signed
-times-of n x = record { plus = n * x .plus; minus = n * x .minus; bot = x .bot; good = x .good }
-
-pub next : (n : ℕ) (x : Signed) → Low (times-of (suc n) x) (sum-of x (times-of n x)) × Low (sum-of x (times-of n x)) (times-of (suc n) x)
-next n x = (omega arith, omega arith)
-
-pub most-times : (n : ℕ) (x : Signed) (h : Frac) → AtMost x h → AtMost (times-of n x) (power n h)
+pub exp-above-times : (n : ℕ) (x : Signed) (q : Frac) → AboveExp x q → AboveExp (times-of n x) (power n q)
 unfolding power
-most-times zero x h a = at-most (times-of 0 x) (nat 1) (exp-zero (times-of 0 x) (omega arith) .0)
-most-times (suc n) x h a =
-    most-arg (times-of (suc n) x) (sum-of x (times-of n x)) (h ⊠ power n h) (next n x .0) (most-sum x (times-of n x) h (power n h) a (most-times n x h a))
+exp-above-times zero x q a = exp-zero (times-of 0 x) (omega arith) .0
+exp-above-times (suc n) x q a = exp-above-arg (times-of (suc n) x) (sum-of x (times-of n x)) (q ⊠ power n q) (next n x .0) (exp-above-sum x (times-of n x) q (power n q) a (exp-above-times n x q a))
 
-pub least-times : (n : ℕ) (x : Signed) (l : Frac) → AtLeast x l → AtLeast (times-of n x) (power n l)
+pub exp-below-times : (n : ℕ) (x : Signed) (q : Frac) → BelowExp x q → BelowExp (times-of n x) (power n q)
 unfolding power
-least-times zero x l a = at-least (times-of 0 x) (nat 1) (exp-zero (times-of 0 x) (omega arith) .1)
-least-times (suc n) x l a =
-    least-arg (sum-of x (times-of n x)) (times-of (suc n) x) (l ⊠ power n l) (next n x .1) (least-sum x (times-of n x) l (power n l) a (least-times n x l a))
+exp-below-times zero x q a = exp-zero (times-of 0 x) (omega arith) .1
+exp-below-times (suc n) x q a = exp-below-arg (sum-of x (times-of n x)) (times-of (suc n) x) (q ⊠ power n q) (next n x .1) (exp-below-sum x (times-of n x) q (power n q) a (exp-below-times n x q a))

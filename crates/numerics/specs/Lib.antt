@@ -46,12 +46,12 @@ pub mod Tail
 pub mod Exponential
 -- the partial sums at -a enclose 1 / e ^ a
 pub mod Alternating
--- the convenient forms, for x of either sign
-pub mod Exponentials
--- laws of the convenient forms
-pub mod ExponentialLaws
+-- bounds of e ^ x by the two parts of x, for x of either sign: `AtMost`, `AtLeast`
+pub mod ExpBounds
+-- laws of these bounds
+pub mod ExpBoundLaws
 -- laws of the definitions themselves
-pub mod Strict
+pub mod ExponentialLaws
 -- ways to show `Within` and `LnWithin`
 pub mod Distance
 -- the convenient forms are the series with its tail's bound

@@ -16,9 +16,9 @@ use Rattle.numerics.specs.Law.{mono-⊠}
 use Rattle.numerics.specs.Rel.{less}
 use Rattle.numerics.specs.Exp.{LE, inv}
 use Rattle.numerics.specs.Exponential.{Signed, plus-of, minus-of, raised, lowered, AboveExp, BelowExp, LnWithin, LnReaches, LnNear}
-use Rattle.numerics.specs.Exponentials.{at-least, least-most}
-use Rattle.numerics.specs.ExponentialLaws.{split}
-use Rattle.numerics.specs.Strict.{exp-above-arg, exp-below-arg}
+use Rattle.numerics.specs.ExpBounds.{at-least, least-most}
+use Rattle.numerics.specs.ExpBoundLaws.{split}
+use Rattle.numerics.specs.ExponentialLaws.{exp-above-arg, exp-below-arg}
 use Rattle.numerics.specs.Distance.{most-plus, ln-within-of, ln-within-neg}
 use Rattle.numerics.specs.Equivalence.{below-nonneg, above-neg}
 

@@ -1,6 +1,6 @@
--- The exponential's convenient forms, and that they are those of `Exponential`. With x = u - v, `AtMost x h` says e ^ u ≤ h * e ^ v and `AtLeast x l` says l * e ^ v ≤ e ^ u, by the least upper
--- bounds of the partial sums at u and v, which are not negative: no case is made of signs. What lies above e ^ x is at most (`at-most`), what lies below at least (`at-least`).
--- Assumes nothing.
+-- Bounds of e ^ x by the two parts of x. With x = u - v, `AtMost x h` says e ^ u ≤ h * e ^ v and `AtLeast x l` says l * e ^ v ≤ e ^ u, by the least upper bounds of the partial sums
+-- at u and v, which are not negative: no case is made of signs. What lies above e ^ x is `AtMost` (`at-most`), what lies below is `AtLeast` (`at-least`), and so nothing below exceeds
+-- anything above (`below-above-exp`). Assumes nothing.
 use mathlib.Core.Path.{_≡_, refl, sym, ap, ap₂, _∙_, subst}
 use Prim.Native.Nat.{ℕ, zero, suc, _+_, _-_, _*_, _^_, _≤_, _<_}
 use native.Mathlib.Nat.{le-refl, le-trans, le-of-eq, le-of-lt, lt-of-lt-of-le, mul-pos, mul-one, one-mul, add-comm, mul-le-mul, mul-le-mul-right, mul-le-mul-left, le-of-mul-le-mul-right, pow-suc, pow-zero, add-sub-of-le}
@@ -169,7 +169,7 @@ cancel-exp v p q h = limit v p q q each
     each : (l : ℕ) → Far l v → p ⊑ q ⊞ q ⊠ T l v
     each l f = unfold sumBot in clear (p .top) (p .bot) (q .top) (q .bot) (sumTop l (v .top) (v .bot)) (sumBot l (v .bot)) (v .bot * suc l) (2 * v .top ^ suc l) (sumBot-pos l (v .bot) (v .good)) (S-one l v) (h (U l v) (above-by l v (U l v) f (⊑-refl (U l v))) l)
 
--- nothing at least e ^ x .. is more than what is at most it
+-- l ≤ e ^ x and e ^ x ≤ h
 pub least-most : (x : Signed) (l h : Frac) → AtLeast x l → AtMost x h → l ⊑ h
 least-most x l h a b = cancel-exp (negatives x) l h (λ A k m. a (h ⊠ A) (b A k) m)
 
