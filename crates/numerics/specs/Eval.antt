@@ -10,7 +10,7 @@ use lib.Pow.{pow-pos}
 use Rattle.numerics.specs.Frac.{Frac, _⊑_, nat, ⊑-refl}
 use Rattle.numerics.specs.Series.{sumTop, sumBot, S, U, Above, Below, above-by, below-by}
 use Rattle.numerics.specs.Limit.{Far}
-use Rattle.numerics.specs.Exponential.{Signed, plus-of, raised, lowered, powers, sums, gain, loss, tail, Enough, AboveExp, BelowExp, LnWithin}
+use Rattle.numerics.specs.Exponential.{Signed, plus-of, minus-of, raised, lowered, powers, sums, gain, loss, tail, Enough, AboveExp, BelowExp, LnWithin}
 use Rattle.numerics.specs.ExpBoundLaws.{G, L, t, on, above-plain, below-plain, monus, most-arg, least-arg}
 use Rattle.numerics.specs.Distance.{most-plus, least-plus, ln-within}
 
@@ -29,6 +29,11 @@ enclosed n x e h = (
   (n, (e, below-plain n x (lower n x) (omega (arith, ap (λ (z : ℕ). z * sumBot (suc n) (x .bot)) (add-sub-of-le h))))),
   (n, (e, above-plain n x (upper n x) (monus (G n x + t n x) (L n x) (sumBot (suc n) (x .bot))))),
 )
+
+-- 0.36787944117144 < e ^ -1 < 0.36787944117145, by 17 terms of the series at -1
+pub e-minus-one : BelowExp (minus-of (nat 1)) (record { top = 36787944117144; bot = 10 ^ 14; good = lit≤ tt }) × AboveExp (minus-of (nat 1)) (record { top = 36787944117145; bot = 10 ^ 14; good = lit≤ tt })
+unfolding sums powers sumBot
+e-minus-one = ((17, (lit≤ tt, lit≤ tt)), (17, (lit≤ tt, lit≤ tt)))
 
 -- ---- ln 2
 abbrev pub ln2-low : Frac
