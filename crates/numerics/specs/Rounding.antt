@@ -1,8 +1,9 @@
 -- The laws of rounding at binary64, stated once over the operation: + - × / on finite operands, at any signs.
 --   is-rounded         the result is the exact one, rounded once
---   within-unit        |result - exact| ≤ 2 ^ -53 * |exact|, and the sign is right, where the exact result is in the normal range
+--   within-unit        |result - exact| ≤ 2 ^ -53 * |exact|, and the sign is right, where the exact result is at least 2 ^ -1022 and the result is finite
+--   normal-finite      the result is finite where the exact one is between 2 ^ -1022 and 2 ^ 1023
 --   within-half-unit   |result - exact| ≤ half a unit in the last place, wherever the result is finite
---   exact-where-held   the result is the exact one where a double holds it
+--   exact-where-held, exact-zero   the result is the exact one where a double holds it
 --   monotone           a larger exact result rounds to no smaller double
 --   beyond-above, beyond-below   a double strictly beyond the result is strictly beyond the exact one
 -- Assumes nothing.
@@ -22,6 +23,7 @@ use lib.Ieee.Scale.{grid, overflow, finite, round-val, round-same}
 use lib.Ieee.Positive.{num, den, positive, den-pos}
 use Rattle.numerics.specs.Frac.{Frac, _⊑_, _⊞_, _⊠_}
 use Rattle.numerics.specs.Round.{val, Normal, closest-above, closest-below, near-of, inside}
+use Rattle.numerics.specs.Nonneg.{zero-val}
 use Rattle.numerics.specs.Fixed.{round-fixes, above-round, below-round}
 
 pub data Operation : Type 0 where
@@ -130,6 +132,18 @@ cross nan s a c h = absurd h
 cross (inf t) s a c h = absurd h
 cross (fin t m e) s a c h = h .1
 
+-- a finite result is below the overflow
+units-under : (f : Format) (s : Bool) (q k : ℕ) → T (finite (units f s q k)) → q * 2 ^ k < overflow f
+unfolding units
+units-under f s q k = go (ltb (q * 2 ^ k) (overflow f)) (ltb→lt (q * 2 ^ k) (overflow f))
+  where
+    go : (b : Bool) → (T b → q * 2 ^ k < overflow f) → T (finite (cond b (odd (suc (prec f)) s q k (low f)) (inf s))) → q * 2 ^ k < overflow f
+    go true h t = h tt
+    go false h t = absurd t
+
+under : (f : Format) (s : Bool) (a c : ℕ) → T (finite (round f s a c)) → grid f a c < overflow f
+under f s a c t = units-under f s (kept (prec f) (a * 2 ^ low f) c) (drop (prec f) (a * 2 ^ low f) c) (subst (λ (z : Float). T (finite z)) (round-is f s a c) t)
+
 -- ---- within 2 ^ -53 relatively
 abbrev pub unit : Frac
 unit = record { top = 1; bot = 2 ^ 53; good = pow-pos 53 }
@@ -150,15 +164,16 @@ pub record Rounded (s : Bool) (q : Frac) (v : Float) : Type 0 where
   pub high : val v ⊑ q ⊞ unit ⊠ q
   pub low : q ⊑ val v ⊞ unit ⊠ q
 
-pub round-unit : (s : Bool) (q : Frac) → Normal q → Rounded s q (round binary64 s (q .top) (q .bot))
-round-unit s q n =
+-- for q from 2 ^ -1022 on whose rounding is finite: the whole normal range
+pub round-unit : (s : Bool) (q : Frac) → q .bot ≤ q .top * 2 ^ 1022 → T (finite (round binary64 s (q .top) (q .bot))) → Rounded s q (round binary64 s (q .top) (q .bot))
+round-unit s q n t =
     let a = q .top in
     let c = q .bot in
     let v = round binary64 s a c in
     let g = grid binary64 a c in
-    let w : HasValue v s g (2 ^ 1074) = resign binary64 s a c g (2 ^ 1074) (round-val binary64 a c (inside a c (q .good) (n .least) (n .most))) in
+    let w : HasValue v s g (2 ^ 1074) = resign binary64 s a c g (2 ^ 1074) (round-val binary64 a c (under binary64 s a c t)) in
     let x : num v * 2 ^ 1074 ≡ g * den v = cross v s g (2 ^ 1074) w in
-    let b = near-of a c (q .good) (n .least) in
+    let b = near-of a c (q .good) n in
     record {
       sign = sign-of v s g (2 ^ 1074) w;
       high = over-it (num v) (den v) g (2 ^ 1074) a c (2 ^ 53) (pow-pos 1074) x (b .above);
@@ -171,8 +186,23 @@ round-unit s q n =
     under-it : (x d g l a c P : ℕ) → 0 < l → x * l ≡ g * d → a * l * P ≤ g * c * P + a * l → a * (d * (P * c)) ≤ (x * (P * c) + 1 * a * d) * c
     under-it x d g l a c P L e h = le-of-mul-le-mul-right {k = l} (omega (arith, mul-le-mul-right (d * c) h, ap (λ (z : ℕ). z * (c * c * P)) e)) L
 
-pub within-unit : (o : Operation) (x y : Float) → T (finite x) → T (finite y) → (d : Defined o y) → Normal (exact o x y d) → Rounded (exact-sign o x y) (exact o x y d) (apply o x y)
-within-unit o x y p q d n = rw (is-rounded o x y p q d) (round-unit (exact-sign o x y) (exact o x y d) n)
+pub within-unit : (o : Operation) (x y : Float) → T (finite x) → T (finite y) → (d : Defined o y) → exact-bot o x y ≤ exact-top o x y * 2 ^ 1022 → T (finite (apply o x y))
+    → Rounded (exact-sign o x y) (exact o x y d) (apply o x y)
+within-unit o x y p q d n t = rw (is-rounded o x y p q d) (round-unit (exact-sign o x y) (exact o x y d) n (rw (is-rounded o x y p q d) at t))
+
+-- a result is finite where the exact one is at most 2 ^ 1023
+finite-of-value : (v : Float) (s : Bool) (a c : ℕ) → HasValue v s a c → T (finite v)
+finite-of-value nan s a c h = absurd h
+finite-of-value (inf t) s a c h = absurd h
+finite-of-value (fin t m e) s a c h = tt
+
+pub normal-finite : (o : Operation) (x y : Float) → T (finite x) → T (finite y) → (d : Defined o y) → Normal (exact o x y d) → T (finite (apply o x y))
+normal-finite o x y p q d n =
+    let a = exact-top o x y in
+    let c = exact-bot o x y in
+    rw (is-rounded o x y p q d)
+    (finite-of-value (round binary64 (exact-sign o x y) a c) (exact-sign o x y) (grid binary64 a c) (2 ^ 1074)
+    (resign binary64 (exact-sign o x y) a c (grid binary64 a c) (2 ^ 1074) (round-val binary64 a c (inside a c (exact-bot-pos o x y d) (n .least) (n .most)))))
 
 -- ---- within half a unit in the last place, subnormal results included
 -- doubles at q are 2 ^ drop times 2 ^ -1074 apart: half of that
@@ -183,17 +213,6 @@ pub record Halved (s : Bool) (q : Frac) (v : Float) : Type 0 where
   pub sign : HasSign s v
   pub high : val v ⊑ q ⊞ half-unit q
   pub low : q ⊑ val v ⊞ half-unit q
-
-units-under : (f : Format) (s : Bool) (q k : ℕ) → T (finite (units f s q k)) → q * 2 ^ k < overflow f
-unfolding units
-units-under f s q k = go (ltb (q * 2 ^ k) (overflow f)) (ltb→lt (q * 2 ^ k) (overflow f))
-  where
-    go : (b : Bool) → (T b → q * 2 ^ k < overflow f) → T (finite (cond b (odd (suc (prec f)) s q k (low f)) (inf s))) → q * 2 ^ k < overflow f
-    go true h t = h tt
-    go false h t = absurd t
-
-under : (f : Format) (s : Bool) (a c : ℕ) → T (finite (round f s a c)) → grid f a c < overflow f
-under f s a c t = units-under f s (kept (prec f) (a * 2 ^ low f) c) (drop (prec f) (a * 2 ^ low f) c) (subst (λ (z : Float). T (finite z)) (round-is f s a c) t)
 
 pub round-half-unit : (s : Bool) (q : Frac) → T (finite (round binary64 s (q .top) (q .bot))) → Halved s q (round binary64 s (q .top) (q .bot))
 round-half-unit s q t =
@@ -228,6 +247,11 @@ exact-where-held o x y z p q d P F e =
     rw (is-rounded o x y p q d)
     (resign binary64 (exact-sign o x y) (exact-top o x y) (exact-bot o x y) (num z) (den z)
     (rw (round-same binary64 false (exact-top o x y) (exact-bot o x y) (num z) (den z) (exact-bot-pos o x y d) (den-pos z) e) (round-fixes binary64 z P F)))
+
+-- and a zero stays a zero
+pub exact-zero : (o : Operation) (x y : Float) → T (finite x) → T (finite y) → Defined o y → exact-top o x y ≡ 0 → HasValue (apply o x y) (exact-sign o x y) 0 (2 ^ 1074)
+exact-zero o x y p q d z =
+    rw (is-rounded o x y p q d, z) (resign binary64 (exact-sign o x y) 0 (exact-bot o x y) 0 (2 ^ 1074) (zero-val (exact-bot o x y) (exact-bot-pos o x y d)))
 
 -- ---- results that are not negative: monotony, and values strictly beyond
 module _ (o : Operation) (x y : Float) (p : T (finite x)) (q : T (finite y)) (d : Defined o y) (s : exact-sign o x y ≡ false) where
