@@ -1,0 +1,2 @@
+-- What the equation gives, in document 01's order.
+pub mod Derivatives

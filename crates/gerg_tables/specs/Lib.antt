@@ -1,0 +1,2 @@
+-- What the coefficient file holds.
+pub mod Tables
