@@ -1,8 +1,17 @@
--- Examples of the normaliser: five polynomial identities and one inequality, each closed by one call; the same by `omega arith` where it suffices.
-use mathlib.Core.Path.{_≡_}
-use Prim.Native.Nat.{ℕ, _+_, _*_, _≤_}
+-- Examples: five polynomial identities and one inequality, each closed by one call of the normaliser; the same by `omega arith` where it suffices;
+-- and why a rounding's bound is no smaller, and the tail's bound not left out.
+use mathlib.Core.Path.{_≡_, refl}
+use Prim.Native.Nat.{ℕ, _+_, _*_, _^_, _≤_}
 use native.Mathlib.Nat.{mul-le-mul}
 use native.Mathlib.Omega.{arith}
+use lib.Dec.{lit≤}
+use lib.Count.{trailingZeros}
+use lib.IntN.{pos, negsuc}
+use mathlib.Core.Bool.{false}
+use lib.Ieee.{fin, binary64, add, sum, round, units, odd, size, span, climb}
+use Rattle.numerics.specs.Frac.{Frac, _⊑_, _⊏_, _⊞_, _⊠_, nat}
+use Rattle.numerics.specs.Series.{sumBot}
+use Rattle.numerics.specs.Exponential.{plus-of, powers, sums, gain, loss, BelowExp}
 use Rattle.numerics.specs.Ring.{Poly, con, _⊕_, _⊗_, equal, at-most, ring₂, ring₃, ring₄, ring-le₃}
 
 -- ---- identities by `ring`
@@ -39,3 +48,23 @@ nine a b c d e f g h i = omega arith
 
 crossed : (a b c d x y : ℕ) → a * d ≤ c * b → x * b ≤ y * d → a * x * (b * d) ≤ c * b * (y * d)
 crossed a b c d x y h k = omega (arith, mul-le-mul h k)
+
+-- ---- the bound 2 ^ -53 of a rounding is needed: 1 + 2 ^ -53 gives 1, which is further from it than 2 ^ -54 of it
+half-way : add binary64 (fin false 1 (pos 0)) (fin false 1 (negsuc 52)) ≡ fin false 1 (pos 0)
+unfolding add sum round units odd size span climb trailingZeros
+half-way = refl
+
+abbrev sum-exact : Frac
+sum-exact = record { top = 2 ^ 53 + 1; bot = 2 ^ 53; good = lit≤ tt }
+
+further : nat 1 ⊞ record { top = 1; bot = 2 ^ 54; good = lit≤ tt } ⊠ sum-exact ⊏ sum-exact
+further = lit≤ tt
+
+-- ---- the tail's bound is needed: the partial sum 1 + 1 at 1 is at most 2, and 5 / 2 lies below e
+below-e : BelowExp (plus-of (nat 1)) (record { top = 5; bot = 2; good = lit≤ tt })
+unfolding sums powers sumBot
+below-e = (4, (lit≤ tt, lit≤ tt))
+
+no-tail : gain 1 (plus-of (nat 1)) ⊑ nat 2 ⊞ loss 1 (plus-of (nat 1))
+unfolding sums powers sumBot
+no-tail = lit≤ tt

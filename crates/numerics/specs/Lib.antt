@@ -9,9 +9,8 @@ pub mod Fill
 -- the test for a finite double
 pub mod Finite
 -- ---- whole numbers
--- polynomial identities and inequalities by computation, and examples of it
+-- polynomial identities and inequalities by computation
 pub mod Ring
-pub mod Examples
 -- ---- fractions and rounding
 -- fractions, their order, and the order up to so many roundings
 pub mod Frac
@@ -68,3 +67,5 @@ pub mod Poly
 -- Horner's rule with rounding, and its coefficients
 pub mod Horner
 pub mod Coefs
+-- ---- examples of the normaliser and of the bounds
+pub mod Examples
