@@ -4,13 +4,13 @@
 -- and q * e ^ a ≤ 1 for q ≤ even n - odd n - T n (`reciprocal-below`). Assumes nothing.
 use mathlib.Core.Path.{_≡_, refl, sym, ap, ap₂, _∙_, subst}
 use Prim.Native.Nat.{ℕ, zero, suc, _+_, _-_, _*_, _^_, _≤_, _<_}
-use native.Mathlib.Nat.{le-refl, le-trans, le-of-eq, le-of-suc-le, mul-pos, zero-lt-suc, mul-one, one-mul, mul-zero, zero-add, mul-le-mul-right, mul-le-mul-left, le-of-mul-le-mul-right, pow-suc, pow-zero, sub-self, sub-zero, add-comm, add-sub-cancel, add-sub-cancel-left, le-add-left, le-add-right, eq-of-mul-eq-mul-left}
+use native.Mathlib.Nat.{le-refl, le-trans, le-of-suc-le, mul-pos, zero-lt-suc, mul-one, mul-le-mul-right, pow-suc, pow-zero, sub-self, sub-zero, add-comm, add-sub-cancel, add-sub-cancel-left, le-add-left, le-add-right, eq-of-mul-eq-mul-left}
 use native.Mathlib.Decide.{le-ind}
 use native.Mathlib.Omega.{arith}
 use Rattle.numerics.specs.Frac.{Frac, _⊑_, _⊞_, _⊠_, nat, ⊑-refl, ⊑-trans, add-mono, add-cancel}
-use Rattle.numerics.specs.Conv.{sum, conv, D, sum-cong, conv-cong, conv-scale, conv-scale', leibniz, triangle-in-square, box-in-triangle}
-use Rattle.numerics.specs.Series.{sumTop, sumBot, sumBot-pos, S, U, Above, S-mono, S-below-U}
-use Rattle.numerics.specs.Law.{rise, term, one-more, rise-pos, term-rule, rise-split, sum-terms, whole, all, mono-⊠}
+use Rattle.numerics.specs.Conv.{sum, conv, D, conv-cong, conv-scale, conv-scale', leibniz, triangle-in-square, box-in-triangle}
+use Rattle.numerics.specs.Series.{sumTop, sumBot, sumBot-pos, S, Above, S-mono, S-below-U}
+use Rattle.numerics.specs.Law.{rise, term, one-more, term-rule, rise-split, sum-terms, whole, all, mono-⊠}
 use Rattle.numerics.specs.Limit.{T, Far, far-more, tail-anti, limit}
 use Rattle.numerics.specs.Exponential.{powers, sums}
 

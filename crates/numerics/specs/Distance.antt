@@ -10,15 +10,15 @@
 --   ln-within-of      from LE y x δ and Below (y + δ) x: y is within δ of ln x
 --   ln-within-neg     from LE y (1 / x) δ and Below (y + δ) (1 / x): -y is within δ of ln x
 -- Assumes nothing.
-use mathlib.Core.Path.{_≡_, refl, sym, ap, _∙_}
-use Prim.Native.Nat.{ℕ, zero, suc, _+_, _-_, _*_, _^_, _≤_, _<_}
-use native.Mathlib.Nat.{le-refl, le-trans, lt-of-lt-of-le, mul-pos, mul-le-mul, mul-le-mul-right, mul-le-mul-left, le-of-mul-le-mul-right}
+use mathlib.Core.Path.{_≡_, ap, _∙_}
+use Prim.Native.Nat.{ℕ, _+_, _*_, _≤_, _<_}
+use native.Mathlib.Nat.{mul-pos, mul-le-mul-right, mul-le-mul-left, le-of-mul-le-mul-right}
 use native.Mathlib.Omega.{arith}
 use Rattle.numerics.specs.Frac.{Frac, _⊑_, _⊞_, _⊠_, nat, ⊑-refl, ⊑-trans, add-mono}
-use Rattle.numerics.specs.Series.{sumTop, sumBot, S, Above, Below, S-arg, above-arg, below-arg, below-above}
+use Rattle.numerics.specs.Series.{sumTop, sumBot, S, Above, Below, S-arg, above-arg, below-above}
 use Rattle.numerics.specs.Law.{mono-⊠, zero-sum}
 use Rattle.numerics.specs.Exp.{LE, inv}
-use Rattle.numerics.specs.Exponential.{Signed, plus-of, minus-of, raised, lowered, AboveExp, BelowExp, Within, LnWithin}
+use Rattle.numerics.specs.Exponential.{Signed, plus-of, minus-of, raised, lowered, Within, LnWithin}
 use Rattle.numerics.specs.ExpBoundLaws.{Low, most-arg, least-arg}
 use Rattle.numerics.specs.ExpBounds.{positives, negatives, AtMost, AtLeast, at-most, at-least, least-most}
 

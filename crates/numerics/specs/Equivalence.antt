@@ -4,10 +4,10 @@
 --   above-neg      q lies above e ^ -a just where Below a (1 / q)
 --   below-neg      each q' under q lies below e ^ -a just where Above a (1 / q)
 -- The second and the fourth speak of q' because `Above` allows q = e ^ a, which a strict bound does not reach. Assumes nothing.
-use mathlib.Core.Path.{_≡_, refl, sym, ap, _∙_, subst}
+use mathlib.Core.Path.{_≡_, sym, subst}
 use mathlib.Core.Logic.{_↔_, _⊎_, inl, inr}
-use Prim.Native.Nat.{ℕ, zero, suc, _+_, _-_, _*_, _^_, _≤_, _<_}
-use native.Mathlib.Nat.{le-refl, le-trans, le-of-eq, lt-of-lt-of-le, mul-pos, mul-le-mul-right, mul-le-mul-left, le-of-mul-le-mul-right, one-le-pow, zero-add, eq-zero-or-pos}
+use Prim.Native.Nat.{ℕ, zero, suc, _+_, _*_, _^_, _≤_, _<_}
+use native.Mathlib.Nat.{lt-of-lt-of-le, mul-pos, mul-le-mul-right, le-of-mul-le-mul-right, one-le-pow, zero-add, eq-zero-or-pos}
 use native.Mathlib.Omega.{arith}
 use Rattle.numerics.specs.Frac.{Frac, _⊑_, _⊏_, _⊞_, _⊠_, nat, ⊑-refl, ⊑-trans}
 use Rattle.numerics.specs.Series.{sumTop, sumBot, sumBot-pos, S, Above, Below}
@@ -16,9 +16,9 @@ use Rattle.numerics.specs.Limit.{archimedes}
 use Rattle.numerics.specs.Tail.{S-one}
 use Rattle.numerics.specs.Exp.{inv}
 use Rattle.numerics.specs.Exponential.{Signed, plus-of, minus-of, size, AboveExp, BelowExp}
-use Rattle.numerics.specs.ExpBounds.{positives, negatives, AtMost, AtLeast, at-most, at-least, least-most, of, up-below}
+use Rattle.numerics.specs.ExpBounds.{AtMost, AtLeast, at-most, at-least, least-most, of, up-below}
 use Rattle.numerics.specs.ExpBoundLaws.{above-of-most, below-of-least, least-some, exp-zero}
-use Rattle.numerics.specs.ExponentialLaws.{room-above, exp-above-more, exp-below-less, one-below, one-above}
+use Rattle.numerics.specs.ExponentialLaws.{room-above, exp-above-more, exp-below-less, one-below}
 use Rattle.numerics.specs.Distance.{zero-one, most-plus, least-plus, most-minus, least-minus}
 
 -- ---- an order that holds up to every larger or smaller fraction holds

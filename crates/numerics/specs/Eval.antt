@@ -1,16 +1,16 @@
 -- Enclosures that antt computes. For a fraction x and a number n of terms, `lower n x` and `upper n x` are a bound of e ^ x below and one above (`enclosed`), at either sign;
 -- `S n a` and `U n a` are the same for a ≥ 0 (`enclosed-nonneg`). Then ln 2 to 110 binary places (`ln2-within`), and e to the lower end of that, computed (`e-ln2-low`);
 -- and e ^ L for L the binary64 value nearest to ln 2, to 100 places. Assumes nothing.
-use mathlib.Core.Path.{_≡_, ap}
-use Prim.Native.Nat.{ℕ, suc, _+_, _-_, _*_, _^_, _≤_, _<_}
-use native.Mathlib.Nat.{le-of-eq, le-of-lt, mul-le-mul-right, add-sub-of-le}
+use mathlib.Core.Path.{ap}
+use Prim.Native.Nat.{ℕ, suc, _+_, _-_, _*_, _^_, _≤_}
+use native.Mathlib.Nat.{add-sub-of-le}
 use native.Mathlib.Omega.{arith}
 use lib.Dec.{lit≤}
 use lib.Pow.{pow-pos}
-use Rattle.numerics.specs.Frac.{Frac, _⊑_, nat, ⊑-refl}
+use Rattle.numerics.specs.Frac.{Frac, nat, ⊑-refl}
 use Rattle.numerics.specs.Series.{sumTop, sumBot, S, U, Above, Below, above-by, below-by}
 use Rattle.numerics.specs.Limit.{Far}
-use Rattle.numerics.specs.Exponential.{Signed, plus-of, minus-of, raised, lowered, powers, sums, gain, loss, tail, Enough, AboveExp, BelowExp, LnWithin}
+use Rattle.numerics.specs.Exponential.{Signed, plus-of, minus-of, raised, lowered, powers, sums, Enough, AboveExp, BelowExp, LnWithin}
 use Rattle.numerics.specs.ExpBoundLaws.{G, L, t, on, above-plain, below-plain, monus, most-arg, least-arg}
 use Rattle.numerics.specs.Distance.{most-plus, least-plus, ln-within}
 

@@ -12,7 +12,7 @@ use lib.Ieee.{fin, binary64, add, sum, round, units, odd, size, span, climb}
 use Rattle.numerics.specs.Frac.{Frac, _⊑_, _⊏_, _⊞_, _⊠_, nat}
 use Rattle.numerics.specs.Series.{sumBot}
 use Rattle.numerics.specs.Exponential.{plus-of, powers, sums, gain, loss, BelowExp}
-use Rattle.numerics.specs.Ring.{Poly, con, _⊕_, _⊗_, equal, at-most, ring₂, ring₃, ring₄, ring-le₃}
+use Rattle.numerics.specs.Ring.{con, _⊕_, _⊗_, equal, at-most, ring₂, ring₃, ring₄, ring-le₃}
 
 -- ---- identities by `ring`
 square : (a b : ℕ) → (a + b) * (a + b) ≡ a * a + 2 * a * b + b * b

@@ -6,19 +6,19 @@
 --   most-sum, least-sum             bounds of e ^ x and of e ^ y multiply to bounds of e ^ (x + y)
 --   most-times, least-times         and to bounds of e ^ (n x)
 -- Assumes nothing.
-use mathlib.Core.Path.{_≡_, refl, sym, ap, ap₂, _∙_, subst}
+use mathlib.Core.Path.{_≡_, sym, ap}
 use mathlib.Core.Logic.{_⊎_, inl, inr}
-use Prim.Native.Nat.{ℕ, zero, suc, _+_, _-_, _*_, _^_, _≤_, _<_}
-use native.Mathlib.Nat.{le-refl, le-trans, le-of-eq, le-of-lt, lt-of-lt-of-le, mul-pos, mul-one, one-mul, zero-lt-suc, mul-le-mul, mul-le-mul-right, mul-le-mul-left, le-of-mul-le-mul-right, pow-suc, pow-zero, add-sub-of-le, eq-zero-or-pos}
+use Prim.Native.Nat.{ℕ, zero, suc, _+_, _-_, _*_, _≤_, _<_}
+use native.Mathlib.Nat.{le-trans, le-of-eq, le-of-lt, lt-of-lt-of-le, mul-pos, mul-le-mul-right, mul-le-mul-left, le-of-mul-le-mul-right, add-sub-of-le, eq-zero-or-pos}
 use native.Mathlib.Omega.{arith}
 use mathlib.Core.Bool.{Bool, true, false, not}
-use lib.Dec.{leb, leb→le, nleb→lt, lit≤}
+use lib.Dec.{leb, leb→le, nleb→lt}
 use lib.Dec as dec
-use Rattle.numerics.specs.Frac.{Frac, _⊑_, _⊏_, _⊞_, _⊠_, nat, ⊑-refl, ⊑-trans, add-mono, add-cancel}
-use Rattle.numerics.specs.Series.{sumTop, sumBot, sumBot-pos, S, U, Above, Below, S-mono, S-arg, above-by, above-arg}
+use Rattle.numerics.specs.Frac.{Frac, _⊑_, _⊏_, _⊞_, _⊠_, nat, ⊑-refl, ⊑-trans}
+use Rattle.numerics.specs.Series.{sumTop, sumBot, sumBot-pos, S, U, Above, S-arg, above-by, above-arg}
 use Rattle.numerics.specs.Law.{mono-⊠, law-lower, law-upper, above-mul, over, above-div, power}
-use Rattle.numerics.specs.Limit.{T, Far, far-first, tail-small}
-use Rattle.numerics.specs.Exponential.{Signed, size, powers, sums, gain, loss, tail, Enough, AboveExp, BelowExp}
+use Rattle.numerics.specs.Limit.{T, far-first, tail-small}
+use Rattle.numerics.specs.Exponential.{Signed, size, sums, gain, loss, tail, Enough, AboveExp, BelowExp}
 use Rattle.numerics.specs.ExpBounds.{positives, negatives, AtMost, AtLeast, at-most, at-least, least-most, cancel-exp}
 use Rattle.numerics.specs.Tail.{S-one}
 
@@ -229,10 +229,10 @@ module _ (x y : Signed) where
       let u = positives x in
       let s = S m u in
       let P : 0 < s .top = lt-of-lt-of-le (s .good) (S-one m u) in
-      ⊑-trans (S m (u ⊞ positives y)) (s ⊠ S m (positives y)) (h ⊠ k ⊠ A) (law-lower m u (positives y)) (turn (S m (positives y)) (h ⊠ A) s P (b (over (h ⊠ A) s P) (other s P (⊑-refl s)) m))
+      ⊑-trans (S m (u ⊞ positives y)) (s ⊠ S m (positives y)) (h ⊠ k ⊠ A) (law-lower m u (positives y)) (turn (S m (positives y)) s P (b (over (h ⊠ A) s P) (other s P (⊑-refl s)) m))
     where
-      turn : (q r s : Frac) (P : 0 < s .top) → q ⊑ k ⊠ over (h ⊠ A) s P → s ⊠ q ⊑ h ⊠ k ⊠ A
-      turn q r s P g = omega (arith, g)
+      turn : (q s : Frac) (P : 0 < s .top) → q ⊑ k ⊠ over (h ⊠ A) s P → s ⊠ q ⊑ h ⊠ k ⊠ A
+      turn q s P g = omega (arith, g)
 
       side : (j : ℕ) → S m (positives x) ⊠ S j (negatives y) ⊑ h ⊠ A
       side j =
@@ -265,10 +265,10 @@ module _ (x y : Signed) where
           back s r R h = omega (arith, h)
 
       by-size : (f .top ≡ 0) ⊎ (0 < f .top) → f ⊠ g ⊠ (S m (negatives x) ⊠ S m (negatives y)) ⊑ A
-      by-size (inl z) = rw z (nothing (g .top) (S m (negatives x) .top * S m (negatives y) .top * A .bot) (S m (negatives x) .top * S m (negatives y) .top) (A .bot) (A .top * (f .bot * g .bot * (S m (negatives x) .bot * S m (negatives y) .bot))))
+      by-size (inl z) = rw z (nothing (g .top) (S m (negatives x) .top * S m (negatives y) .top) (A .bot) (A .top * (f .bot * g .bot * (S m (negatives x) .bot * S m (negatives y) .bot))))
         where
-          nothing : (g r p q y : ℕ) → 0 * g * p * q ≤ y
-          nothing g r p q y = omega arith
+          nothing : (g p q y : ℕ) → 0 * g * p * q ≤ y
+          nothing g p q y = omega arith
       by-size (inr P) =
           let s = S m (negatives x) in
           let Q : 0 < s .top = lt-of-lt-of-le (s .good) (S-one m (negatives x)) in

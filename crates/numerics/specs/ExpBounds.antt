@@ -1,19 +1,19 @@
 -- Bounds of e ^ x by the two parts of x. With x = u - v, `AtMost x h` says e ^ u ≤ h * e ^ v and `AtLeast x l` says l * e ^ v ≤ e ^ u, by the least upper bounds of the partial sums
 -- at u and v, which are not negative: no case is made of signs. What lies above e ^ x is `AtMost` (`at-most`), what lies below is `AtLeast` (`at-least`), and so nothing below exceeds
 -- anything above (`below-above-exp`). Assumes nothing.
-use mathlib.Core.Path.{_≡_, refl, sym, ap, ap₂, _∙_, subst}
+use mathlib.Core.Path.{_≡_, refl, ap, subst}
 use Prim.Native.Nat.{ℕ, zero, suc, _+_, _-_, _*_, _^_, _≤_, _<_}
-use native.Mathlib.Nat.{le-refl, le-trans, le-of-eq, le-of-lt, lt-of-lt-of-le, mul-pos, mul-one, one-mul, add-comm, mul-le-mul, mul-le-mul-right, mul-le-mul-left, le-of-mul-le-mul-right, pow-suc, pow-zero, add-sub-of-le}
+use native.Mathlib.Nat.{le-of-lt, lt-of-lt-of-le, mul-pos, mul-le-mul-right, mul-le-mul-left, le-of-mul-le-mul-right, pow-suc, pow-zero, add-sub-of-le}
 use native.Mathlib.Omega.{arith}
 use mathlib.Core.Bool.{Bool, true, false, not}
 use lib.Dec.{leb, leb→le, nleb→lt}
 use lib.Dec as dec
-use Rattle.numerics.specs.Frac.{Frac, _⊑_, _⊞_, _⊠_, nat, ⊑-refl, ⊑-trans, add-mono, add-cancel}
-use Rattle.numerics.specs.Series.{sumTop, sumBot, sumBot-pos, S, U, Above, Below, S-mono, S-arg, S-below-U, above-by, above-arg}
+use Rattle.numerics.specs.Frac.{Frac, _⊑_, _⊞_, _⊠_, nat, ⊑-refl, ⊑-trans}
+use Rattle.numerics.specs.Series.{sumTop, sumBot, sumBot-pos, S, U, Above, S-arg, above-by, above-arg}
 use Rattle.numerics.specs.Law.{mono-⊠, law-lower, law-upper, above-mul, over, above-div}
-use Rattle.numerics.specs.Limit.{T, Far, far-more, far-first, tail-anti, tail-small, limit}
+use Rattle.numerics.specs.Limit.{T, Far, limit}
 use Rattle.numerics.specs.Alternating.{even, odd, reciprocal-above, reciprocal-below}
-use Rattle.numerics.specs.Exponential.{Signed, size, powers, sums, gain, loss, tail, Enough, AboveExp, BelowExp}
+use Rattle.numerics.specs.Exponential.{Signed, powers, sums, gain, loss, tail, AboveExp, BelowExp}
 use Rattle.numerics.specs.Tail.{S-one}
 
 abbrev pub positives : Signed → Frac

@@ -7,18 +7,17 @@
 --   exp-above-times, exp-below-times   powers of a bound are bounds of e ^ (n x)
 -- They rest on this: where x is not 0 there is a smaller q below each q above e ^ x (`room-above`), and a larger above each q below it (`room-below`), since with two terms more the sum
 -- with the tail's bound falls and the sum less it grows. Assumes nothing.
-use mathlib.Core.Path.{_≡_, refl, sym, ap, _∙_, subst}
+use mathlib.Core.Path.{_≡_, refl, ap}
 use mathlib.Core.Logic.{_⊎_, inl, inr}
 use Prim.Native.Nat.{ℕ, zero, suc, _+_, _-_, _*_, _^_, _≤_, _<_}
-use native.Mathlib.Nat.{le-refl, le-trans, le-of-eq, le-of-lt, lt-of-lt-of-le, lt-of-le-of-lt, mul-pos, mul-le-mul, mul-le-mul-right, mul-le-mul-left, le-of-mul-le-mul-right, lt-of-mul-lt-mul-right, mul-lt-mul-of-pos-right, pow-suc, one-le-pow, add-sub-of-le, eq-zero-or-pos}
+use native.Mathlib.Nat.{le-trans, le-of-eq, lt-of-lt-of-le, mul-pos, mul-le-mul-right, mul-le-mul-left, le-of-mul-le-mul-right, mul-lt-mul-of-pos-right, pow-suc, one-le-pow, add-sub-of-le, eq-zero-or-pos}
 use native.Mathlib.Omega.{arith}
 use Rattle.numerics.specs.Frac.{Frac, _⊑_, _⊏_, _⊞_, _⊠_, nat, ⊑-refl, ⊑-trans, add-mono}
-use Rattle.numerics.specs.Series.{sumTop, sumBot, sumBot-pos, S, U, Above, above-by, S-arg, above-arg}
+use Rattle.numerics.specs.Series.{sumTop, sumBot, sumBot-pos, S, S-arg}
 use Rattle.numerics.specs.Law.{mono-⊠, law-upper, power}
-use Rattle.numerics.specs.Limit.{far-first}
 use Rattle.numerics.specs.Alternating.{both-powers}
 use Rattle.numerics.specs.Exponential.{Signed, size, powers, sums, gain, loss, tail, Enough, AboveExp, BelowExp}
-use Rattle.numerics.specs.ExpBounds.{positives, negatives, AtMost, AtLeast, at-most, at-least, least-most, below-above-exp, by-sign, of, powers-up, powers-down, size-up, size-down}
+use Rattle.numerics.specs.ExpBounds.{positives, negatives, AtMost, AtLeast, at-most, at-least, least-most, below-above-exp, by-sign, powers-up, powers-down, size-up, size-down}
 use Rattle.numerics.specs.ExpBoundLaws.{G, L, t, on, above-plain, below-plain, split, monus, above-of-most, below-of-least, least-some, exp-zero, Low, most-arg, least-arg, sum-of, most-sum, least-sum, times-of, next}
 
 -- ---- a power's two parts differ by |x| ^ k
@@ -157,7 +156,6 @@ room-below x q s a =
     let m = suc (suc n) in
     let D = sumBot (suc m) (x .bot) in
     let r = G m x - (L m x + t m x) in
-    let w = (L m x + t m x) * q .bot + 1 * size x .top ^ suc (suc n) * q .bot in
     let c : L m x + t m x ≤ G m x = le-of-mul-le-mul-right {k = q .bot} (le-trans (part (q .top * D) ((L m x + t m x) * q .bot) (1 * size x .top ^ suc (suc n) * q .bot)) two) (q .good) in
     (on m x r, (strict (G m x) (L m x + t m x) (q .top) (q .bot) D (size x .top ^ suc (suc n)) (one-le-pow (suc (suc n)) (size x .top) s) (q .good) c two, at-least x (on m x r) (m, (enough-later n x e, below-plain m x (on m x r) (whole (G m x) (L m x + t m x) D c)))))
   where

@@ -1,12 +1,11 @@
 -- The tail's bound T n a = 2 a ^ (n + 1) / (n + 1)! comes under every fraction (`tail-small`), so an order that holds up to a multiple of each T n a holds (`limit`). Assumes nothing.
-use mathlib.Core.Path.{_≡_}
-use Prim.Native.Nat.{ℕ, zero, suc, _+_, _-_, _*_, _^_, _≤_, _<_}
+use Prim.Native.Nat.{ℕ, zero, suc, _+_, _*_, _^_, _≤_, _<_}
 use native.Mathlib.Nat.{le-trans, mul-le-mul-right, mul-le-mul-left, le-of-mul-le-mul-right, pow-suc, add-suc, add-zero}
 use mathlib.Core.Bool.{Bool, true, false, not}
 use lib.Dec.{leb, leb→le, nleb→lt}
 use lib.Dec as dec
 use native.Mathlib.Omega.{arith}
-use Rattle.numerics.specs.Frac.{Frac, _⊑_, _⊞_, _⊠_, nat}
+use Rattle.numerics.specs.Frac.{Frac, _⊑_, _⊞_, _⊠_}
 use Rattle.numerics.specs.Series.{sumBot, sumBot-pos}
 
 abbrev pub T : ℕ → Frac → Frac

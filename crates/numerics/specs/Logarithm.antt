@@ -5,17 +5,17 @@
 --   ln-near-plus         r = y ≥ 0, known to be within d ≤ δ × max(1, y), where δ (1 + ε) ≤ ε
 --   ln-near-minus        the same for r = -y
 -- Assumes nothing.
-use mathlib.Core.Path.{_≡_, refl, sym, ap, _∙_}
+use mathlib.Core.Path.{_≡_, ap}
 use mathlib.Core.Logic.{_⊎_, inl, inr}
-use Prim.Native.Nat.{ℕ, zero, suc, _+_, _-_, _*_, _^_, _≤_, _<_, max}
-use native.Mathlib.Nat.{le-refl, le-trans, le-of-eq, le-of-lt, mul-pos, mul-le-mul, mul-le-mul-right, mul-le-mul-left, le-of-mul-le-mul-right, add-sub-of-le, eq-zero-or-pos}
+use Prim.Native.Nat.{ℕ, _+_, _-_, _*_, _≤_, _<_, max}
+use native.Mathlib.Nat.{mul-le-mul-right, le-of-mul-le-mul-right, add-sub-of-le, eq-zero-or-pos}
 use native.Mathlib.Omega.{arith}
 use Rattle.numerics.specs.Frac.{Frac, _⊑_, _⊞_, _⊠_, nat, ⊑-refl, ⊑-trans}
 use Rattle.numerics.specs.Series.{Above, Below}
 use Rattle.numerics.specs.Law.{mono-⊠}
 use Rattle.numerics.specs.Rel.{less}
 use Rattle.numerics.specs.Exp.{LE, inv}
-use Rattle.numerics.specs.Exponential.{Signed, plus-of, minus-of, raised, lowered, AboveExp, BelowExp, LnWithin, LnReaches, LnNear}
+use Rattle.numerics.specs.Exponential.{Signed, plus-of, minus-of, raised, lowered, BelowExp, LnWithin, LnReaches, LnNear}
 use Rattle.numerics.specs.ExpBounds.{at-least, least-most}
 use Rattle.numerics.specs.ExpBoundLaws.{split}
 use Rattle.numerics.specs.ExponentialLaws.{exp-above-arg, exp-below-arg}

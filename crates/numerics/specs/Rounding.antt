@@ -8,16 +8,15 @@
 --   beyond-above, beyond-below   a double strictly beyond the result is strictly beyond the exact one
 -- Assumes nothing.
 use mathlib.Core.Path.{_≡_, refl, sym, ap, _∙_, subst}
-use Prim.Native.Nat.{ℕ, zero, suc, _+_, _-_, _*_, _/_, _%_, _^_, _≤_, _<_}
-use native.Mathlib.Nat.{le-refl, le-trans, le-of-eq, mul-pos, mul-le-mul-right, mul-le-mul-left, le-of-mul-le-mul-right, lt-irrefl}
+use Prim.Native.Nat.{ℕ, zero, suc, _+_, _-_, _*_, _^_, _≤_, _<_}
+use native.Mathlib.Nat.{mul-pos, mul-le-mul-right, le-of-mul-le-mul-right, lt-irrefl}
 use native.Mathlib.Omega.{arith}
 use mathlib.Core.Bool.{Bool, true, false, not, _&&_, cond, Bool·beq}
-use lib.IntN.{ℤ}
-use lib.Dec.{T, ltb, eqb, eqb→eq, ltb→lt, lit≤}
+use lib.Dec.{T, ltb, eqb, eqb→eq, ltb→lt}
 use lib.Pow.{pow-pos}
 use lib.Ieee.{Float, nan, inf, fin, Format, binary64, up, down, prec, emax, low, odd, units, round, add, sub, mul, div, sum, neg, le, unlike, fits}
 use lib.Ieee.Exact.{HasValue}
-use lib.Ieee.Fits.{up-pos, down-pos, round-is}
+use lib.Ieee.Fits.{round-is}
 use lib.Ieee.Order.{drop, kept, round-mono}
 use lib.Ieee.Scale.{grid, overflow, finite, round-val, round-same}
 use lib.Ieee.Positive.{num, den, positive, den-pos}
