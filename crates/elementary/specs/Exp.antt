@@ -1,0 +1,65 @@
+-- The steps of exp: "written down once in specs/, fix the bits of each answer" (document 01). Each ⊕ ⊖ ⊗ rounds once.
+use mathlib.Core.Bool.{Bool, true, false, _&&_}
+use Prim.Native.Nat.{ℕ, _-_, _*_, _/_, _%_}
+use lib.IntN.{pos}
+use lib.Ieee.{Float, nan, inf, binary64, neg, lt, ne, ofInt, toUnsigned}
+use Rattle.numerics.specs.Double.{_⊕_, _⊖_, _⊗_, bits, +0, one, pick}
+use Rattle.elementary.specs.ExpTable.{tableEntry}
+
+-- the double nearest 64 / ln 2
+abbrev pub stepsPerUnit : Float
+stepsPerUnit = bits 0x4057_1547_652b_82fe
+
+-- 131071.75: 2048 × 64, which keeps the count of steps positive, less a quarter, which keeps the remainder positive
+abbrev pub shift : Float
+shift = bits 0x40ff_ffff_c000_0000
+
+-- 131072.0
+abbrev pub origin : Float
+origin = bits 0x4100_0000_0000_0000
+
+-- ln 2 / 64 cut to 34 significant bits, and the double nearest the rest
+abbrev pub stepHigh : Float
+stepHigh = bits 0x3f86_2e42_fef8_0000
+
+abbrev pub stepLow : Float
+stepLow = bits 0x3d51_cf79_abc9_e3b4
+
+-- reduction: x = (u − 131072) × ln 2 / 64 + r, with r from about 1/4 to 5/4 of ln 2 / 64
+unfoldable pub stepsOf : Float → ℕ
+stepsOf x = toUnsigned 64 (x ⊗ stepsPerUnit ⊕ shift)
+
+unfoldable pub remainderOf : Float → ℕ → Float
+remainderOf x u =
+    let m = ofInt binary64 (pos u) ⊖ origin in
+    x ⊖ m ⊗ stepHigh ⊖ m ⊗ stepLow
+
+-- polynomial: r + r² / 2 + .. + r⁶ / 720, each coefficient the double nearest 1 / k!
+unfoldable pub polynomialOf : Float → Float
+polynomialOf r =
+    r ⊗ (one ⊕ r ⊗ (bits 0x3fe0_0000_0000_0000 ⊕ r ⊗ (bits 0x3fc5_5555_5555_5555 ⊕ r ⊗ (bits 0x3fa5_5555_5555_5555 ⊕ r ⊗ (bits 0x3f81_1111_1111_1111 ⊕ r ⊗ bits 0x3f56_c16c_16c1_6c17)))))
+
+-- 2 ^ (u / 64 − 2048) for 1025 < u / 64 < 3072, by its exponent's field
+unfoldable pub powerOf : ℕ → Float
+powerOf n = bits ((n - 1025) * 0x10_0000_0000_0000)
+
+unfoldable pub withinOf : Float → Float
+withinOf x =
+    let u = stepsOf x in
+    let t = tableEntry (u % 64) in
+    (t ⊕ t ⊗ polynomialOf (remainderOf x u)) ⊗ powerOf (u / 64)
+
+-- 700.0, and 2 ^ −54, below which e ^ x rounds to 1
+abbrev pub most : Float
+most = bits 0x4085_e000_0000_0000
+
+abbrev pub least : Float
+least = bits 0x3c90_0000_0000_0000
+
+-- "Above 700 it gives +infinity, below −700 it gives +0", "exp(±0) = 1", "NaN included, gives NaN"
+unfoldable pub expOf : Float → Float
+expOf x =
+    pick (ne x x) nan
+    (pick (lt most x) (inf false)
+    (pick (lt x (neg most)) +0
+    (pick (lt (neg least) x && lt x least) one (withinOf x))))

@@ -1,0 +1,5 @@
+-- The steps of the elementary functions, and their distances from the exact values.
+pub mod Match
+pub mod Signed
+pub mod ExpTable
+pub mod Exp
