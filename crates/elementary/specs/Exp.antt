@@ -12,7 +12,7 @@ stepsPerUnit = bits 0x4057_1547_652b_82fe
 
 -- 131071.75: 2048 × 64, which keeps the count of steps positive, less a quarter, which keeps the remainder positive
 abbrev pub shift : Float
-shift = bits 0x40ff_ffff_c000_0000
+shift = bits 0x40ff_fffc_0000_0000
 
 -- 131072.0
 abbrev pub origin : Float

@@ -3,3 +3,5 @@ pub mod Match
 pub mod Signed
 pub mod ExpTable
 pub mod Exp
+pub mod ExpRange
+pub mod ExpSteps
