@@ -5,3 +5,4 @@ pub mod ExpTable
 pub mod Exp
 pub mod ExpRange
 pub mod ExpSteps
+pub mod ExpTests

@@ -2,7 +2,8 @@
 ghost use Prim.Native.Nat.{_<_, _≤_};
 ghost use mathlib.Core.Path.{_≡_};
 ghost use Rattle.elementary.specs.ExpTable.{tableEntry};
-ghost use Rattle.elementary.specs.Exp.{polynomialOf, remainderOf, stepsOf, powerOf, withinOf, expOf};
+ghost use Rattle.elementary.specs.ExpSteps.{InRange};
+ghost use Rattle.elementary.specs.Exp.{polynomialOf, remainderOf, powerOf, withinOf, expOf};
 
 // 2 ^ (j / 64): the constants of a match stand in constant memory, an array's would be copied at each call.
 fn table_entry(j: u64) -> f64
@@ -95,4 +96,42 @@ fn remainder(x: f64, u: u64) -> f64
 {
     let m = u as f64 - 131072.0;
     x - m * 0.010830424695996044 - m * 2.5310172166650877e-13
+}
+
+// 2 ^ (n - 2048), made from its exponent's field
+fn power(n: u64) -> f64
+    requires { ⌜ 1025 < n ⌝ }
+    requires { ⌜ n < 3072 ⌝ }
+    ensures { λ r. ⌜ r ≡ powerOf n ⌝ }
+{
+    f64::from_bits((n - 1025) * 0x10_0000_0000_0000)
+}
+
+fn within(x: f64) -> f64
+    requires { ⌜ InRange x ⌝ }
+    ensures { λ v. ⌜ v ≡ withinOf x ⌝ }
+{
+    let u = std::num::truncating_f64_to_u64(x * 92.33248261689366 + 131071.75);
+    let t = table_entry(u % 64);
+    let p = polynomial(remainder(x, u));
+    (t + t * p) * power(u / 64)
+}
+
+// e ^ x: within 2 ^ -46 of it for x from -700 to 700
+pub fn exp(x: f64) -> f64
+    ensures { λ v. ⌜ v ≡ expOf x ⌝ }
+{
+    if x != x {
+        return 0.0 / 0.0;
+    }
+    if x > 700.0 {
+        return 1.0 / 0.0;
+    }
+    if x < -700.0 {
+        return 0.0;
+    }
+    if (x > -5.551115123125783e-17) & (x < 5.551115123125783e-17) {
+        return 1.0;
+    }
+    within(x)
 }
