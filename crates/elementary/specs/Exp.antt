@@ -1,8 +1,7 @@
 -- The steps of exp: "written down once in specs/, fix the bits of each answer" (document 01). Each ⊕ ⊖ ⊗ rounds once.
 use mathlib.Core.Bool.{Bool, true, false, _&&_}
 use Prim.Native.Nat.{ℕ, _-_, _*_, _/_, _%_}
-use lib.IntN.{pos}
-use lib.Ieee.{Float, nan, inf, binary64, neg, lt, ne, ofInt, toUnsigned}
+use lib.Ieee.{Float, nan, inf, binary64, neg, lt, ne, toBits}
 use Rattle.numerics.specs.Double.{_⊕_, _⊖_, _⊗_, bits, +0, one, pick}
 use Rattle.elementary.specs.ExpTable.{tableEntry}
 
@@ -10,13 +9,17 @@ use Rattle.elementary.specs.ExpTable.{tableEntry}
 abbrev pub stepsPerUnit : Float
 stepsPerUnit = bits 0x4057_1547_652b_82fe
 
--- 131071.75: 2048 × 64, which keeps the count of steps positive, less a quarter, which keeps the remainder positive
+-- 131071.25: 2048 × 64, which keeps the count of steps positive, less three quarters, which keeps the remainder positive
 abbrev pub shift : Float
-shift = bits 0x40ff_fffc_0000_0000
+shift = bits 0x40ff_fff4_0000_0000
 
--- 131072.0
+-- 2 ^ 52: a sum with it is rounded to a whole number, which is the pattern's last 52 digits
+abbrev pub rounder : Float
+rounder = bits 0x4330_0000_0000_0000
+
+-- 2 ^ 52 + 131072
 abbrev pub origin : Float
-origin = bits 0x4100_0000_0000_0000
+origin = bits 0x4330_0000_0002_0000
 
 -- ln 2 / 64 cut to 34 significant bits, and the double nearest the rest
 abbrev pub stepHigh : Float
@@ -25,13 +28,16 @@ stepHigh = bits 0x3f86_2e42_fef8_0000
 abbrev pub stepLow : Float
 stepLow = bits 0x3d51_cf79_abc9_e3b4
 
--- reduction: x = (u − 131072) × ln 2 / 64 + r, with r from about 1/4 to 5/4 of ln 2 / 64
-unfoldable pub stepsOf : Float → ℕ
-stepsOf x = toUnsigned 64 (x ⊗ stepsPerUnit ⊕ shift)
+-- reduction: x = (u − 131072) × ln 2 / 64 + r, with u the whole number in `countedOf x` and r from about 1/4 to 5/4 of ln 2 / 64
+unfoldable pub countedOf : Float → Float
+countedOf x = x ⊗ stepsPerUnit ⊕ shift ⊕ rounder
 
-unfoldable pub remainderOf : Float → ℕ → Float
-remainderOf x u =
-    let m = ofInt binary64 (pos u) ⊖ origin in
+unfoldable pub stepsOf : Float → ℕ
+stepsOf w = toBits binary64 w % 0x10_0000_0000_0000
+
+unfoldable pub remainderOf : Float → Float → Float
+remainderOf x w =
+    let m = w ⊖ origin in
     x ⊖ m ⊗ stepHigh ⊖ m ⊗ stepLow
 
 -- polynomial: r + r² / 2 + .. + r⁶ / 720, each coefficient the double nearest 1 / k!
@@ -45,9 +51,9 @@ powerOf n = bits ((n - 1025) * 0x10_0000_0000_0000)
 
 unfoldable pub withinOf : Float → Float
 withinOf x =
-    let u = stepsOf x in
-    let t = tableEntry (u % 64) in
-    (t ⊕ t ⊗ polynomialOf (remainderOf x u)) ⊗ powerOf (u / 64)
+    let w = countedOf x in
+    let t = tableEntry (stepsOf w % 64) in
+    (t ⊕ t ⊗ polynomialOf (remainderOf x w)) ⊗ powerOf (stepsOf w / 64)
 
 -- 700.0, and 2 ^ −54, below which e ^ x rounds to 1
 abbrev pub most : Float

@@ -1,22 +1,24 @@
--- The count of steps in the exponential's reduction, for a double x from -700 to 700 and not smaller than 2 ^ -54: u is the whole part of
--- x * 64 / ln 2 + 131071.75, each operation rounded. So u lies between 66430 and 195710, and x less (u - 131072) * ln 2 / 64 lies between 0.002 and 0.014. Assumes nothing.
+-- The count of steps in the exponential's reduction, for a double x from -700 to 700 and not smaller than 2 ^ -54: w = 2 ^ 52 + u is the sum of
+-- x * 64 / ln 2 + 131071.25 and 2 ^ 52, each operation rounded. So u is a whole number that lies between 66430 and 195710, and x less (u - 131072) * ln 2 / 64 lies between 0.002 and 0.014. Assumes nothing.
 use mathlib.Core.Path.{_≡_, refl, sym, ap, ap₂, _∙_, subst}
-use Prim.Native.Nat.{ℕ, zero, suc, _+_, _-_, _*_, _/_, _%_, _^_, _≤_, _<_, min, zero-le}
-use native.Mathlib.Nat.{le-refl, le-trans, le-of-eq, lt-of-lt-of-le, mul-pos, mul-assoc, mul-le-mul-right, mul-le-mul-left, le-of-mul-le-mul-right, min-eq-left, div-mul-le-self, lt-div-mul-add, div-lt-iff-lt-mul, le-of-lt}
+use Prim.Native.Nat.{ℕ, zero, suc, _+_, _-_, _*_, _/_, _%_, _^_, _≤_, _<_, zero-le}
+use native.Mathlib.Nat.{le-refl, le-trans, le-of-eq, lt-of-lt-of-le, mul-pos, mul-assoc, mul-le-mul-right, mul-le-mul-left, le-of-mul-le-mul-right}
 use native.Mathlib.Omega.{arith}
-use mathlib.Core.Bool.{Bool, true, false}
+use mathlib.Core.Bool.{Bool, true, false, not}
 use lib.IntN.{ℤ, pos, negsuc}
 use lib.Dec.{T, lit≤, lt→ltb}
-use lib.Ieee.{Float, nan, inf, fin, binary64, up, down, round, add, sub, mul, neg, ofBits, toUnsigned, lt}
+use lib.Ieee.{Float, nan, inf, fin, binary64, up, down, round, add, sub, mul, neg, ofBits, toBits, isNan}
 use lib.Ieee.Fits.{down-pos}
+use lib.Ieee.Exact.{HasValue}
 use lib.Ieee.Scale.{finite}
 use lib.Ieee.Positive.{num, den, positive, den-pos, first-pos}
 use Rattle.numerics.specs.Frac.{Frac, _⊠_, big, small, Under, Close}
 use Rattle.numerics.specs.Round.{val, Rel, Normal, round-rel}
 use Rattle.numerics.specs.Rel.{mul-rel}
 use Rattle.elementary.specs.Signed.{plus, minus, plus-positive, minus-positive, add-signed, mul-neg, plus-neg, minus-neg, den-neg, finite-neg}
+use Rattle.elementary.specs.Whole.{unit52, rounded-positive, rounded-whole, rounded-up, rounded-down}
 use Rattle.elementary.specs.ExpRange.{ratio, above, below, far-of, near-of, few-of, some-of}
-use Rattle.elementary.specs.Exp.{stepsPerUnit, shift, stepsOf}
+use Rattle.elementary.specs.Exp.{stepsPerUnit, shift, rounder, countedOf, stepsOf}
 
 -- a double from -700 to 700, and not smaller than 2 ^ -54
 pub record InRange (x : Float) : Type 0 where
@@ -41,7 +43,7 @@ abbrev perUnit : Float
 perUnit = fin false 3248660424278399 (negsuc 44)
 
 abbrev shifted : Float
-shifted = fin false 524287 (negsuc 1)
+shifted = fin false 524285 (negsuc 1)
 
 per-unit-is : stepsPerUnit ≡ perUnit
 unfolding ofBits
@@ -50,6 +52,16 @@ per-unit-is = refl
 shift-is : shift ≡ shifted
 unfolding ofBits
 shift-is = refl
+
+rounder-is : rounder ≡ unit52
+unfolding ofBits
+rounder-is = refl
+
+number : (x : Float) → T (positive x) → T (not (isNan x))
+unfolding isNan
+number nan p = absurd p
+number (inf s) p = tt
+number (fin s m e) p = tt
 
 -- ---- x * 64 / ln 2, each part between 92.332482 and 92.332483 times that of x
 record Scaled (x q : Float) : Type 0 where
@@ -133,29 +145,6 @@ crude p q h = ratio (p .top * q .bot) (q .top * p .bot) (small ^ 1) (big ^ 1) 10
 pub normal-crude : (q : Frac) → q .bot ≤ q .top * 2 ^ 40 → q .top ≤ q .bot * 2 ^ 40 → Normal q
 normal-crude q h k = record { least = le-trans h (mul-le-mul-left (q .top) (lit≤ tt)); most = le-trans k (mul-le-mul-left (q .bot) (lit≤ tt)) }
 
--- ---- the whole part
-trunc : (z : Float) → T (positive z) → num z ≤ den z * 1000000 → (toUnsigned 64 z * den z ≤ num z) × (num z ≤ toUnsigned 64 z * den z + den z)
-unfolding toUnsigned
-trunc nan p h = absurd p
-trunc (inf s) p h = absurd p
-trunc (fin true m e) p h = absurd p
-trunc (fin false m e) p h =
-    let q = m * up e / down e in
-    let D = down-pos e in
-    let b : q < 1000001 = div-lt-iff-lt-mul D .1 (omega (arith, D)) in
-    let e1 : min q (2 ^ 64 - 1) ≡ q = min-eq-left (le-trans {m = 1000001} (omega arith) (lit≤ tt)) in
-    rw e1 (div-mul-le-self (m * up e) (down e), le-of-lt (lt-div-mul-add D))
-
-cast-ok : (z : Float) → T (positive z) → num z ≤ den z * 1000000 → T (lt (fin true 1 (pos 0)) z) × T (lt z (fin false 1 (pos 64)))
-unfolding lt
-cast-ok nan p h = absurd p
-cast-ok (inf s) p h = absurd p
-cast-ok (fin true m e) p h = absurd p
-cast-ok (fin false m e) p h = (
-  lt→ltb 0 (1 * down e + m * up e * 1) (omega (arith, down-pos e)),
-  lt→ltb (m * up e * 1) (18446744073709551616 * down e) (omega (arith, down-pos e)),
-)
-
 -- ---- `ExpRange` at x = (Xp - Xn) / D, q = (Up - Un) / E, z = Z / F, over the denominator D * E * F
 pub record Reach (Xp Xn D k : ℕ) : Type 0 where
   pub far : Xn * 10000000000 + (k - 131072) * D * 108304247 + 20000000 * D ≤ Xp * 10000000000 + (131072 - k) * D * 108304246
@@ -165,8 +154,8 @@ pub record Reach (Xp Xn D k : ℕ) : Type 0 where
 
 reach : (Xp Xn D Up Un E Z F W k : ℕ) → 0 < D → 0 < E → 0 < F
     → Up * D * 1000000 ≤ Xp * E * 92332483 → Xp * E * 92332482 ≤ Up * D * 1000000 → Un * D * 1000000 ≤ Xn * E * 92332483 → Xn * E * 92332482 ≤ Un * D * 1000000
-    → W + Un * 4 ≡ Up * 4 + 524287 * E → Z * (E * 4) * 10000000 ≤ W * F * 10000001 → W * F * 10000000 ≤ Z * (E * 4) * 10000001
-    → k * F ≤ Z → Z ≤ k * F + F → Xp ≤ 700 * D → Xn ≤ 700 * D → Reach Xp Xn D k
+    → W + Un * 4 ≡ Up * 4 + 524285 * E → Z * (E * 4) * 10000000 ≤ W * F * 10000001 → W * F * 10000000 ≤ Z * (E * 4) * 10000001
+    → k * F * 10000 ≤ Z * 10000 + 5001 * F → Z * 10000 ≤ k * F * 10000 + 5001 * F → Xp ≤ 700 * D → Xn ≤ 700 * D → Reach Xp Xn D k
 reach Xp Xn D Up Un E Z F W k D0 E0 F0 p-hi p-lo n-hi n-lo ew z-hi z-lo k-lo k-hi xp xn =
     let Q = D * E * F in
     let Q0 : 0 < Q = mul-pos (mul-pos D0 E0) F0 in
@@ -177,12 +166,12 @@ reach Xp Xn D Up Un E Z F W k D0 E0 F0 p-hi p-lo n-hi n-lo ew z-hi z-lo k-lo k-h
     let Z' = Z * D * E in
     let W' = W * D * F in
     let K = k * Q in
-    let a : Z' * 10000000 + 923324820 * xn' ≤ 923324923 * xp' + 1310717631072 * Q =
+    let a : Z' * 10000000 + 923324820 * xn' ≤ 923324923 * xp' + 1310712631072 * Q =
     above Q xp' xn' up' un' Z' W' (omega (arith, mul-le-mul-right F p-hi)) (omega (arith, mul-le-mul-right F n-lo)) (omega (arith, ap (λ (x : ℕ). x * (D * F)) ew)) (omega (arith, mul-le-mul-right D z-hi)) in
-    let b : xp' * 923324820 + 1310717500000 * Q ≤ Z' * 10000001 + 923324830 * xn' =
+    let b : xp' * 923324820 + 1310712500000 * Q ≤ Z' * 10000001 + 923324830 * xn' =
     below Q xp' xn' up' un' Z' W' (omega (arith, mul-le-mul-right F p-lo)) (omega (arith, mul-le-mul-right F n-hi)) (omega (arith, ap (λ (x : ℕ). x * (D * F)) ew)) (omega (arith, mul-le-mul-right D z-lo)) in
-    let f : K ≤ Z' = omega (arith, mul-le-mul-right (D * E) k-lo) in
-    let g : Z' ≤ K + Q = omega (arith, mul-le-mul-right (D * E) k-hi) in
+    let f : K * 10000 ≤ Z' * 10000 + 5001 * Q = omega (arith, mul-le-mul-right (D * E) k-lo) in
+    let g : Z' * 10000 ≤ K * 10000 + 5001 * Q = omega (arith, mul-le-mul-right (D * E) k-hi) in
     let h : xp' ≤ 700 * Q = omega (arith, mul-le-mul-right (E * F) xp) in
     let i : xn' ≤ 700 * Q = omega (arith, mul-le-mul-right (E * F) xn) in
     let e : (k - 131072) * Q + 131072 * Q ≡ K + (131072 - k) * Q = level k Q in
@@ -226,13 +215,13 @@ module _ (x : Float) (r : InRange x) where
   q-minus = le-of-mul-le-mul-right {k = den x} (omega (arith, s .minus-hi, mul-le-mul-right (den q) x-minus)) (den-pos x)
 
   W : ℕ
-  W = plus q * 4 + 524287 * den q - (minus q * 4 + 0 * den q)
+  W = plus q * 4 + 524285 * den q - (minus q * 4 + 0 * den q)
 
-  W-is : W + minus q * 4 ≡ plus q * 4 + 524287 * den q
+  W-is : W + minus q * 4 ≡ plus q * 4 + 524285 * den q
   unfolding W
   W-is = omega (arith, q-minus)
 
-  W-low : den q ≤ W
+  W-low : 260000 * den q ≤ W
   unfolding W
   W-low = omega (arith, q-minus, den-pos q)
 
@@ -257,20 +246,31 @@ module _ (x : Float) (r : InRange x) where
   unfolding exact
   z-lo = crude exact (val z) (z-rel .near .ge)
 
-  z-most : num z ≤ den z * 1000000
+  z-most : num z ≤ 1000000 * den z
   z-most = le-of-mul-le-mul-right {k = den q} (omega (arith, z-hi, mul-le-mul-right (den z) W-high)) (den-pos q)
+
+  z-low : den z ≤ num z
+  z-low = le-of-mul-le-mul-right {k = den q} (omega (arith, z-lo, mul-le-mul-right (den z) W-low)) (den-pos q)
 
   z-is : add binary64 (mul binary64 x stepsPerUnit) shift ≡ z
   unfolding z q
   z-is = ap₂ (λ (c d : Float). add binary64 (mul binary64 x c) d) per-unit-is shift-is
 
-  pub steps-cast : T (lt (fin true 1 (pos 0)) (add binary64 (mul binary64 x stepsPerUnit) shift)) × T (lt (add binary64 (mul binary64 x stepsPerUnit) shift) (fin false 1 (pos 64)))
-  steps-cast = rw z-is (cast-ok z (z-rel .pos) z-most)
+  counted-is : countedOf x ≡ add binary64 z unit52
+  unfolding countedOf
+  counted-is = ap₂ (λ (c d : Float). add binary64 c d) z-is rounder-is
 
-  pub steps-reach : Reach (plus x) (minus x) (den x) (stepsOf x)
-  unfolding stepsOf z q
+  -- the count as a double: 2 ^ 52 + u
+  pub counted-value : HasValue (countedOf x) false (2 ^ 52 + stepsOf (countedOf x)) 1
+  unfolding stepsOf
+  counted-value = rw counted-is (rounded-whole z (z-rel .pos) z-low z-most)
+
+  pub counted-number : T (not (isNan (countedOf x)))
+  counted-number = rw counted-is (number (add binary64 z unit52) (rounded-positive z (z-rel .pos) z-low z-most))
+
+  pub steps-reach : Reach (plus x) (minus x) (den x) (stepsOf (countedOf x))
+  unfolding stepsOf q
   steps-reach =
-      rw z-is
-      (let k = trunc z (z-rel .pos) z-most in
-      reach (plus x) (minus x) (den x) (plus q) (minus q) (den q) (num z) (den z) W (toUnsigned 64 z) (den-pos x) (den-pos q) (den-pos z)
-      (s .plus-hi) (s .plus-lo) (s .minus-hi) (s .minus-lo) W-is z-hi z-lo (k .0) (k .1) x-plus x-minus)
+      rw counted-is
+      (reach (plus x) (minus x) (den x) (plus q) (minus q) (den q) (num z) (den z) W (toBits binary64 (add binary64 z unit52) % 2 ^ 52) (den-pos x) (den-pos q) (den-pos z)
+      (s .plus-hi) (s .plus-lo) (s .minus-hi) (s .minus-lo) W-is z-hi z-lo (rounded-up z (z-rel .pos) z-low z-most) (rounded-down z (z-rel .pos) z-low z-most) x-plus x-minus)

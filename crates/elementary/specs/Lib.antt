@@ -1,5 +1,6 @@
 -- The steps of the elementary functions, and their distances from the exact values.
 pub mod Match
+pub mod Whole
 pub mod Signed
 pub mod ExpTable
 pub mod Exp

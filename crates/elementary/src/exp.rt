@@ -90,11 +90,10 @@ fn polynomial(r: f64) -> f64
     r * p
 }
 
-fn remainder(x: f64, u: u64) -> f64
-    requires { ⌜ u < 262144 ⌝ }
-    ensures { λ r. ⌜ r ≡ remainderOf x u ⌝ }
+fn remainder(x: f64, w: f64) -> f64
+    ensures { λ r. ⌜ r ≡ remainderOf x w ⌝ }
 {
-    let m = u as f64 - 131072.0;
+    let m = w - 4503599627501568.0;
     x - m * 0.010830424695996044 - m * 2.5310172166650877e-13
 }
 
@@ -111,9 +110,10 @@ fn within(x: f64) -> f64
     requires { ⌜ InRange x ⌝ }
     ensures { λ v. ⌜ v ≡ withinOf x ⌝ }
 {
-    let u = std::num::truncating_f64_to_u64(x * 92.33248261689366 + 131071.75);
+    let w = x * 92.33248261689366 + 131071.25 + 4503599627370496.0;
+    let u = f64::to_bits(w) % 0x10_0000_0000_0000;
     let t = table_entry(u % 64);
-    let p = polynomial(remainder(x, u));
+    let p = polynomial(remainder(x, w));
     (t + t * p) * power(u / 64)
 }
 
