@@ -1,5 +1,6 @@
 -- The steps of the elementary functions, and their distances from the exact values.
 pub mod Match
+pub mod Exactly
 pub mod Whole
 pub mod Signed
 pub mod ExpTable
@@ -7,3 +8,4 @@ pub mod Exp
 pub mod ExpRange
 pub mod ExpSteps
 pub mod ExpTests
+pub mod ExpRemainder
