@@ -293,7 +293,7 @@ module _ (x : Float) (range : InRange x) where
       (first-lo (plus x) (minus x) (den x) (plus a) (minus a) (den a) (u - 131072) (131072 - u) (reach .far) (hi-plus .0) (hi-minus .1))
       (first-hi (plus x) (minus x) (den x) (plus a) (minus a) (den a) (u - 131072) (131072 - u) (reach .near) (hi-plus .1) (hi-minus .0))
 
-  pub first : Frac
+  unfoldable pub first : Frac
   first = record {
     top = plus x * den high-part + minus high-part * den x - (minus x * den high-part + plus high-part * den x);
     bot = den x * den high-part;
@@ -339,7 +339,7 @@ module _ (x : Float) (range : InRange x) where
       second-hi : (G D p n E : ℕ) → G * 10000000000 ≤ 140000100 * D → n * 1000000 ≤ E → (G * E + n * D) * 10000000000 ≤ (0 * E + p * D) * 10000000000 + 140020000 * (D * E)
       second-hi G D p n E h k = omega (arith, mul-le-mul-right E h, mul-le-mul-right D k)
 
-  pub second : Frac
+  unfoldable pub second : Frac
   second = record {
     top = plus partly * den low-part + minus low-part * den partly - (minus partly * den low-part + plus low-part * den partly);
     bot = den partly * den low-part;

@@ -9,3 +9,4 @@ pub mod ExpRange
 pub mod ExpSteps
 pub mod ExpTests
 pub mod ExpRemainder
+pub mod ExpGap
