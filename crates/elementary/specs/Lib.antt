@@ -3,6 +3,7 @@ pub mod Match
 pub mod Exactly
 pub mod Whole
 pub mod Signed
+pub mod Bound
 pub mod ExpTable
 pub mod Exp
 pub mod ExpRange
