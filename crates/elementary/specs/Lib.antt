@@ -11,3 +11,6 @@ pub mod ExpSteps
 pub mod ExpTests
 pub mod ExpRemainder
 pub mod ExpGap
+pub mod ExpPower
+pub mod ExpTableGood
+pub mod ExpSum
