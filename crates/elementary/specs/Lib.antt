@@ -14,3 +14,4 @@ pub mod ExpGap
 pub mod ExpPower
 pub mod ExpTableGood
 pub mod ExpSum
+pub mod ExpFloat
