@@ -15,3 +15,4 @@ pub mod ExpPower
 pub mod ExpTableGood
 pub mod ExpSum
 pub mod ExpFloat
+pub mod ExpBound
