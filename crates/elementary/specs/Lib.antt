@@ -16,3 +16,4 @@ pub mod ExpTableGood
 pub mod ExpSum
 pub mod ExpFloat
 pub mod ExpBound
+pub mod ExpDistance
