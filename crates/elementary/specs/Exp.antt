@@ -40,12 +40,27 @@ remainderOf x w =
     let m = w ⊖ origin in
     x ⊖ m ⊗ stepHigh ⊖ m ⊗ stepLow
 
--- polynomial: r + r² / 2 + .. + r⁶ / 720, each coefficient the double nearest 1 / k!
-unfoldable pub polynomialOf : Float → Float
-polynomialOf r =
-    r ⊗ (one ⊕ r ⊗ (bits 0x3fe0_0000_0000_0000 ⊕ r ⊗ (bits 0x3fc5_5555_5555_5555 ⊕ r ⊗ (bits 0x3fa5_5555_5555_5555 ⊕ r ⊗ (bits 0x3f81_1111_1111_1111 ⊕ r ⊗ bits 0x3f56_c16c_16c1_6c17)))))
+-- the doubles nearest 1 / 2! to 1 / 6!
+abbrev pub over2 : Float
+over2 = bits 0x3fe0_0000_0000_0000
 
--- 2 ^ (u / 64 − 2048) for 1025 < u / 64 < 3072, by its exponent's field
+abbrev pub over6 : Float
+over6 = bits 0x3fc5_5555_5555_5555
+
+abbrev pub over24 : Float
+over24 = bits 0x3fa5_5555_5555_5555
+
+abbrev pub over120 : Float
+over120 = bits 0x3f81_1111_1111_1111
+
+abbrev pub over720 : Float
+over720 = bits 0x3f56_c16c_16c1_6c17
+
+-- polynomial: r + r² / 2 + .. + r⁶ / 720
+unfoldable pub polynomialOf : Float → Float
+polynomialOf r = r ⊗ (one ⊕ r ⊗ (over2 ⊕ r ⊗ (over6 ⊕ r ⊗ (over24 ⊕ r ⊗ (over120 ⊕ r ⊗ over720)))))
+
+-- 2 ^ (n − 2048) for 1025 < n < 3072, by its exponent's field
 unfoldable pub powerOf : ℕ → Float
 powerOf n = bits ((n - 1025) * 0x10_0000_0000_0000)
 

@@ -8,7 +8,7 @@ use lib.Dec.{T, lit≤}
 use lib.Pow.{pow-pos, pow-mono}
 use lib.Ieee.{Float, binary64, add, mul, ofBits}
 use lib.Ieee.Positive.{num, den, positive, den-pos}
-use Rattle.numerics.specs.Double.{bits, one}
+use Rattle.numerics.specs.Double.{one}
 use Rattle.numerics.specs.Frac.{Frac, _⊑_, _⊞_, _⊠_, nat, ⊑-refl, ⊑-trans, big, small, Close, close-refl, close-mul, close-trans, close-same, le-of-under}
 use Rattle.numerics.specs.Round.{val, Rel}
 use Rattle.numerics.specs.Rel.{Ample, rel-exact, rel-weaken, rel-trans, rel-mul, rel-add}
@@ -16,14 +16,14 @@ use Rattle.numerics.specs.Series.{sumTop, sumBot, S}
 use Rattle.numerics.specs.Horner.{fact, one-over, taylor, taylor-is, horner, Coefs, count, horner-rel}
 use Rattle.numerics.specs.Coefs.{close-test, close-tested, coefs-test, coefs-tested}
 use Rattle.numerics.specs.Tail.{S-one, tiny-above}
-use Rattle.elementary.specs.Exp.{polynomialOf, powerOf}
+use Rattle.elementary.specs.Exp.{over2, over6, over24, over120, over720, polynomialOf, powerOf}
 use Rattle.elementary.specs.ExpTable.{tableEntry}
 use Rattle.elementary.specs.ExpTableGood.{Entry}
 use Rattle.elementary.specs.ExpPower.{scale, power-rel}
 
 -- ---- the coefficients 1 / 1! to 1 / 6!
 abbrev later : List Float
-later = bits 0x3fe0_0000_0000_0000 ∷ bits 0x3fc5_5555_5555_5555 ∷ bits 0x3fa5_5555_5555_5555 ∷ bits 0x3f81_1111_1111_1111 ∷ bits 0x3f56_c16c_16c1_6c17 ∷ []
+later = over2 ∷ over6 ∷ over24 ∷ over120 ∷ over720 ∷ []
 
 one-good : Rel 1 one (one-over 1)
 unfolding close-test ofBits fact big small
