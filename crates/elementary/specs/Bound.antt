@@ -1,12 +1,12 @@
 -- `Bound e a p` says that e ^ a is p to e roundings, for fractions a and p: every partial sum of the series at a is at most p * rho e, and some partial sum is at least p / rho e.
 -- Bounds multiply, divide, and bear a small error in a (`bound-mul`, `bound-div`, `bound-near`). Assumes nothing.
-use mathlib.Core.Path.{_≡_, refl, sym, ap, _∙_, subst}
-use Prim.Native.Nat.{ℕ, suc, _+_, _-_, _*_, _^_, _≤_, _<_}
-use native.Mathlib.Nat.{le-refl, le-trans, le-of-eq, lt-of-lt-of-le, mul-pos, mul-le-mul-right, mul-le-mul-left, one-le-pow, le-add-right}
+use mathlib.Core.Path.{_≡_}
+use Prim.Native.Nat.{ℕ, _+_, _-_, _*_, _^_, _≤_, _<_}
+use native.Mathlib.Nat.{le-refl, le-of-eq, mul-pos, mul-le-mul-right, mul-le-mul-left, one-le-pow}
 use native.Mathlib.Omega.{arith}
 use lib.Dec.{lit≤}
 use lib.Pow.{pow-add}
-use Rattle.numerics.specs.Frac.{Frac, _⊑_, _⊞_, _⊠_, nat, ⊑-refl, ⊑-trans, big, small, small-pos, big-pos, Under, Close}
+use Rattle.numerics.specs.Frac.{Frac, _⊑_, _⊞_, _⊠_, nat, ⊑-refl, ⊑-trans, big, small, small-pos, big-pos, Close}
 use Rattle.numerics.specs.Series.{S, Above, Below, above-more, below-less, above-arg, below-arg}
 use Rattle.numerics.specs.Law.{mono-⊠, above-mul, below-mul, above-div, below-div, over}
 use Rattle.numerics.specs.Tail.{rho, tiny-above}

@@ -1,40 +1,23 @@
 -- Differences and products of whole numbers in binary64 that are exact, of either sign. Assumes nothing.
-use mathlib.Core.Path.{_≡_, refl, sym, ap, _∙_, subst}
-use Prim.Native.Nat.{ℕ, zero, suc, _+_, _-_, _*_, _^_, _≤_, _<_}
-use native.Mathlib.Nat.{le-trans, le-of-lt, mul-pos, mul-sub, mul-comm, mul-le-mul-right, not-le-of-lt, mul-lt-mul-of-pos-right}
+use mathlib.Core.Path.{_≡_, sym, ap, ap₂, _∙_, subst}
+use Prim.Native.Nat.{ℕ, _-_, _*_, _^_, _≤_, _<_}
+use native.Mathlib.Nat.{le-trans, mul-pos, mul-one, mul-sub, mul-comm, mul-le-mul-right, mul-lt-mul-of-pos-right}
 use native.Mathlib.Omega.{arith}
-use mathlib.Core.Bool.{Bool, true, false, not, cond, true≢false}
+use mathlib.Core.Bool.{Bool, true, false, true≢false}
 use lib.IntN.{ℤ}
-use lib.Dec.{T, ltb, ltb→lt, nltb→le}
 use lib.Ieee.{Float, nan, inf, fin, Format, binary64, up, down, round, sum, add, sub, mul, neg}
 use lib.Ieee.Fits.{down-pos}
 use lib.Ieee.Exact.{HasValue}
 use lib.Ieee.Back.{round-whole}
 use lib.Ieee.Scale.{round-same}
+use Rattle.elementary.specs.Signed.{taken, left}
 
 -- a - b where b ≤ a, and its sign turned where a < b
 abbrev pub Differs : Float → ℕ → ℕ → Type 0
 Differs v a b = (b ≤ a → HasValue v false (a - b) 1) × (a < b → HasValue v true (b - a) 1)
 
-taken : (A : Type 0) (a b : ℕ) (u v : A) → a < b → cond (ltb a b) u v ≡ u
-taken A a b u v h = go (ltb a b) (nltb→le a b)
-  where
-    go : (t : Bool) → (T (not t) → b ≤ a) → cond t u v ≡ u
-    go true k = refl
-    go false k = absurd (not-le-of-lt h (k tt))
-
-left : (A : Type 0) (a b : ℕ) (u v : A) → b ≤ a → cond (ltb a b) u v ≡ v
-left A a b u v h = go (ltb a b) (ltb→lt a b)
-  where
-    go : (t : Bool) → (T t → a < b) → cond t u v ≡ v
-    go true k = absurd (not-le-of-lt (k tt) h)
-    go false k = refl
-
 over : (a b c x y : ℕ) → x ≡ a * c → y ≡ b * c → (x - y) * 1 ≡ (a - b) * c
-over a b c x y e f = rw (e, f) (native.Mathlib.Nat.mul-one (a * c - b * c) ∙ sym (mul-comm (a - b) c ∙ mul-sub c a b ∙ sym (ap (λ (z : ℕ). z - c * b) (mul-comm a c) ∙ ap (λ (z : ℕ). c * a - z) refl) ∙ flat a b c))
-  where
-    flat : (a b c : ℕ) → a * c - c * b ≡ a * c - b * c
-    flat a b c = ap (λ (z : ℕ). a * c - z) (mul-comm c b)
+over a b c x y e f = mul-one (x - y) ∙ rw (e, f) (ap₂ _-_ (mul-comm a c) (mul-comm b c) ∙ sym (mul-sub c a b) ∙ mul-comm c (a - b))
 
 pub sub-whole : (x y : Float) (a b : ℕ) → a ≤ 2 ^ 53 → b ≤ 2 ^ 53 → HasValue x false a 1 → HasValue y false b 1 → Differs (sub binary64 x y) a b
 unfolding sub add neg sum

@@ -1,5 +1,5 @@
 -- The steps of exp: "written down once in specs/, fix the bits of each answer" (document 01). Each ⊕ ⊖ ⊗ rounds once.
-use mathlib.Core.Bool.{Bool, true, false, _&&_}
+use mathlib.Core.Bool.{false, _&&_}
 use Prim.Native.Nat.{ℕ, _-_, _*_, _/_, _%_}
 use lib.Ieee.{Float, nan, inf, binary64, neg, lt, ne, toBits}
 use Rattle.numerics.specs.Double.{_⊕_, _⊖_, _⊗_, bits, +0, one, pick}

@@ -1,15 +1,15 @@
 -- The exponential's steps for x from -700 to 700 and not smaller than 2 ^ -54: the answer, or for a negative x its inverse, is e ^ |x| to 29 roundings. Assumes nothing.
-use mathlib.Core.Path.{_≡_, refl, sym, ap, _∙_, subst}
-use Prim.Native.Nat.{ℕ, zero, suc, _+_, _-_, _*_, _/_, _%_, _^_, _≤_, _<_}
-use native.Mathlib.Nat.{le-refl, le-trans, le-of-eq, lt-of-lt-of-le, mul-pos, mul-one, mul-le-mul-right, mul-le-mul-left}
+use mathlib.Core.Path.{_≡_, refl, subst}
+use Prim.Native.Nat.{ℕ, _+_, _-_, _*_, _/_, _%_, _^_, _≤_, _<_}
+use native.Mathlib.Nat.{le-refl, le-trans, le-of-eq, lt-of-lt-of-le, mul-pos, mul-le-mul-right}
 use native.Mathlib.Omega.{arith}
-use mathlib.Core.Bool.{Bool, true, false}
+use mathlib.Core.Bool.{true, false}
 use lib.IntN.{ℤ}
-use lib.Dec.{T, lit≤}
+use lib.Dec.{lit≤}
 use lib.Pow.{pow-pos}
-use lib.Ieee.{Float, nan, inf, fin, binary64, up, down, add, mul}
-use lib.Ieee.Positive.{num, den, positive, den-pos}
-use Rattle.numerics.specs.Frac.{Frac, _⊑_, _⊞_, _⊠_, nat, ⊑-refl, ⊑-trans, big, small, Close, close-same, close-trans}
+use lib.Ieee.{Float, fin, down}
+use lib.Ieee.Positive.{num, den, den-pos}
+use Rattle.numerics.specs.Frac.{Frac, _⊑_, _⊞_, _⊠_, nat, ⊑-trans, big, small, Close, close-same, close-trans}
 use Rattle.numerics.specs.Round.{val, Rel}
 use Rattle.numerics.specs.Rel.{num-pos}
 use Rattle.numerics.specs.Series.{sumTop, sumBot, S}
@@ -18,7 +18,7 @@ use Rattle.numerics.specs.Exp.{inv}
 use Rattle.numerics.specs.Tail.{S-one}
 use Rattle.elementary.specs.Signed.{plus, minus}
 use Rattle.elementary.specs.Bound.{Bound, off, bound-near, bound-div, bound-close}
-use Rattle.elementary.specs.Exp.{countedOf, stepsOf, remainderOf, polynomialOf, powerOf, withinOf}
+use Rattle.elementary.specs.Exp.{countedOf, stepsOf, withinOf}
 use Rattle.elementary.specs.ExpTable.{tableEntry}
 use Rattle.elementary.specs.ExpSteps.{InRange, Reach, steps-reach}
 use Rattle.elementary.specs.ExpRemainder.{over-den, reduced, reduced-rel, r-hi, r-lo, remainder-is}

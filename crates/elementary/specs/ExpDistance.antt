@@ -1,8 +1,8 @@
 -- The distance of exp from the exact exponential, of the steps that fix its bits. `Within` is of numerics: nothing below e ^ x exceeds the answer by more than ε of itself, and the
 -- answer exceeds nothing above e ^ x by more than ε of that; above and below are told by partial sums of the power series with a bound on the cut tail. Assumes nothing.
-use mathlib.Core.Path.{_≡_, refl, sym, ap, _∙_, subst}
-use Prim.Native.Nat.{ℕ, suc, _+_, _*_, _^_, _≤_, _<_}
-use native.Mathlib.Nat.{le-refl, le-trans, le-of-eq, le-of-lt, lt-of-le-of-lt, lt-irrefl, one-le-pow, mul-le-mul-left}
+use mathlib.Core.Path.{_≡_, refl, sym, subst}
+use Prim.Native.Nat.{ℕ, _+_, _*_, _^_, _≤_, _<_}
+use native.Mathlib.Nat.{one-le-pow}
 use native.Mathlib.Omega.{arith}
 use mathlib.Core.Bool.{Bool, true, false, not, _&&_, _||_, Bool·beq}
 use lib.IntN.{ℤ}
@@ -10,15 +10,15 @@ use lib.Dec.{T, ltb, eqb, ltb→lt, eqb→eq, eqb-refl, lit≤}
 use lib.Pow.{pow-pos}
 use lib.Ieee.{Float, nan, inf, fin, up, down, neg, le, lt, eq, ne, ofBits}
 use lib.Ieee.Fits.{and-l, and-r}
-use lib.Ieee.Positive.{num, den, positive}
+use lib.Ieee.Positive.{positive}
 use Rattle.numerics.specs.Double.{one, pick}
-use Rattle.numerics.specs.Frac.{Frac, _⊑_, _⊠_, nat, _⊞_, big, small, small-pos, big-pos, small-suc}
+use Rattle.numerics.specs.Frac.{Frac, _⊑_, _⊠_, nat, _⊞_, big, small, big-pos}
 use Rattle.numerics.specs.Round.{val}
 use Rattle.numerics.specs.Rel.{num-pos}
 use Rattle.numerics.specs.Series.{sumTop, sumBot, S, above-more}
 use Rattle.numerics.specs.Exp.{inv}
 use Rattle.numerics.specs.Tail.{rho, tiny-above}
-use Rattle.numerics.specs.Exponential.{Signed, plus-of, minus-of, signed, Within}
+use Rattle.numerics.specs.Exponential.{signed, Within}
 use Rattle.numerics.specs.Distance.{within-factor, within-factor-neg, within-weaken}
 use Rattle.elementary.specs.Bound.{Bound, rho⁻, bound-weaken}
 use Rattle.elementary.specs.Exp.{most, least, withinOf, expOf}

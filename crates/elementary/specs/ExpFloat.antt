@@ -1,15 +1,15 @@
 -- The exponential's polynomial, table entry and power of two in binary64: the answer is within 15 roundings of 2 ^ (u / 64 - 2048) * entry * (sum of the series at r to degree 6). Assumes nothing.
-use mathlib.Core.Path.{_≡_, refl, sym, ap, _∙_, subst}
+use mathlib.Core.Path.{_≡_, refl, sym}
 use mathlib.Core.List.{List, [], _∷_}
-use Prim.Native.Nat.{ℕ, zero, suc, _+_, _-_, _*_, _/_, _%_, _^_, _≤_, _<_}
-use native.Mathlib.Nat.{le-refl, le-trans, le-of-eq, mul-pos, mul-one, one-mul, mul-le-mul, mul-le-mul-right, mul-le-mul-left}
+use Prim.Native.Nat.{ℕ, _+_, _*_, _^_, _≤_}
+use native.Mathlib.Nat.{le-trans, le-of-eq, mul-one, mul-le-mul, mul-le-mul-right, mul-le-mul-left}
 use native.Mathlib.Omega.{arith}
 use lib.Dec.{T, lit≤}
-use lib.Pow.{pow-pos, pow-mono}
+use lib.Pow.{pow-mono}
 use lib.Ieee.{Float, binary64, add, mul, ofBits}
 use lib.Ieee.Positive.{num, den, positive, den-pos}
 use Rattle.numerics.specs.Double.{one}
-use Rattle.numerics.specs.Frac.{Frac, _⊑_, _⊞_, _⊠_, nat, ⊑-refl, ⊑-trans, big, small, Close, close-refl, close-mul, close-trans, close-same, le-of-under}
+use Rattle.numerics.specs.Frac.{Frac, _⊑_, _⊞_, _⊠_, nat, ⊑-trans, big, small, Close, close-refl, close-mul, close-trans, close-same, le-of-under}
 use Rattle.numerics.specs.Round.{val, Rel}
 use Rattle.numerics.specs.Rel.{Ample, rel-exact, rel-weaken, rel-trans, rel-mul, rel-add}
 use Rattle.numerics.specs.Series.{sumTop, sumBot, S}
@@ -17,7 +17,6 @@ use Rattle.numerics.specs.Horner.{fact, one-over, taylor, taylor-is, horner, Co
 use Rattle.numerics.specs.Coefs.{close-test, close-tested, coefs-test, coefs-tested}
 use Rattle.numerics.specs.Tail.{S-one, tiny-above}
 use Rattle.elementary.specs.Exp.{over2, over6, over24, over120, over720, polynomialOf, powerOf}
-use Rattle.elementary.specs.ExpTable.{tableEntry}
 use Rattle.elementary.specs.ExpTableGood.{Entry}
 use Rattle.elementary.specs.ExpPower.{scale, power-rel}
 
@@ -75,9 +74,6 @@ ample-of : (q : Frac) → q .bot ≤ q .top * 1024 → q .top ≤ q .bot * 1024 
 ample-of q a b = record { least = le-trans a (mul-le-mul-left (q .top) (lit≤ tt)); most = le-trans b (mul-le-mul-left (q .bot) (lit≤ tt)) }
 
 module _ (r t : Float) (rp : T (positive r)) (r-hi : num r * 100 ≤ 2 * den r) (r-lo : den r ≤ num r * 1000) (j : ℕ) (entry : Entry j t) where
-  x : Frac
-  x = val r
-
   r-one : num r ≤ den r
   r-one = omega (arith, r-hi)
 

@@ -1,6 +1,6 @@
 -- How far the remainder of the exponential's reduction is off: x and (u - 131072) * L + r differ by at most 4 / (2 ^ 53 - 1), where L = hi + lo exactly, near ln 2 / 64.
 -- Each side is written with sums alone: the part of x, and of u - 131072, that is below zero stands on the other side. Assumes nothing.
-use mathlib.Core.Path.{_≡_, refl, sym, ap, _∙_, subst}
+use mathlib.Core.Path.{_≡_, refl, sym, ap}
 use Prim.Native.Nat.{ℕ, suc, _+_, _-_, _*_, _^_, _≤_, _<_}
 use native.Mathlib.Nat.{le-trans, le-of-eq, le-of-lt, mul-pos, mul-one, mul-le-mul-right, le-of-mul-le-mul-right, sub-add-cancel}
 use native.Mathlib.Omega.{arith}
@@ -8,23 +8,25 @@ use lib.Dec.{T, lit≤}
 use lib.Pow.{pow-pos}
 use lib.Ieee.{Float}
 use lib.Ieee.Positive.{num, den, positive, den-pos}
-use Rattle.numerics.specs.Frac.{Frac, _⊑_, _⊞_, nat, ⊑-refl, ⊑-trans, small, small-suc, small-pos, big, Under, Close}
+use Rattle.numerics.specs.Frac.{Frac, _⊑_, _⊞_, nat, ⊑-trans, small, small-suc, small-pos, Under, Close}
 use Rattle.numerics.specs.Law.{times}
-use Rattle.numerics.specs.Round.{val, Rel}
+use Rattle.numerics.specs.Round.{val}
 use Rattle.numerics.specs.Common.{On, on-le, le-on, on-add, on-under}
+use Rattle.elementary.specs.Bound.{off}
 use Rattle.elementary.specs.Signed.{plus, minus, plus-positive, minus-positive}
 use Rattle.elementary.specs.Exp.{countedOf, stepsOf}
 use Rattle.elementary.specs.ExpSteps.{InRange}
-use Rattle.elementary.specs.ExpRemainder.{High, over-den, low-exact, high-part, low-part, high-good, low-plus-near, low-minus-near, plus-few, minus-few, partly, first, partly-rel, gap₁, gap₂, v-hi, b-plus, b-minus, reduced, second, reduced-rel, r-hi}
+use Rattle.elementary.specs.ExpRemainder.{over-den, low-exact, high-part, low-part, high-good, low-plus-near, low-minus-near, plus-few, minus-few, partly, first, partly-rel, gap₁, gap₂, v-hi, b-plus, b-minus, reduced, second, reduced-rel, r-hi}
 
 -- hi + lo
 abbrev pub step : Frac
 step = record { top = 53629665495808079444474093; bot = 2 ^ 92; good = pow-pos 92 }
 
-abbrev pub off : Frac
-off = record { top = 4; bot = small; good = small-pos }
-
 -- ---- over one denominator Q = P * S: x = X - Y, m * hi = A - B, v one rounding of D = X + B - Y - A, m * lo rounded = F - G, r one rounding of E = v + G - F, and m * lo = K - L
+-- one rounding of b / Q moves it by P / Q at most
+one-up : (S P Q a b : ℕ) → 0 < S → Q ≡ P * S → a * S ≤ b * suc S → b ≤ Q → a ≤ b + P
+one-up S P Q a b S0 q h l = le-of-mul-le-mul-right {k = S} (omega arith) S0
+
 core-up : (S P Q X Y A B D G F H E R K L : ℕ) → 0 < S → Q ≡ P * S → D + (Y + A) ≡ X + B → D * S ≤ G * suc S → G ≤ Q → E + F ≡ G + H → E * S ≤ R * suc S → R ≤ Q
     → F * S ≤ K * suc S → K ≤ Q → L * S ≤ H * suc S → H ≤ Q → X + B + L ≤ Y + A + K + R + 4 * P
 core-up S P Q X Y A B D G F H E R K L S0 q d a b e f g h i j k =
@@ -33,9 +35,6 @@ core-up S P Q X Y A B D G F H E R K L S0 q d a b e f g h i j k =
     let f' : F ≤ K + P = one-up S P Q F K S0 q h i in
     let l' : L ≤ H + P = one-up S P Q L H S0 q j k in
     omega arith
-  where
-    one-up : (S P Q a b : ℕ) → 0 < S → Q ≡ P * S → a * S ≤ b * suc S → b ≤ Q → a ≤ b + P
-    one-up S P Q a b S0 q h l = le-of-mul-le-mul-right {k = S} (omega arith) S0
 
 core-down : (S P Q X Y A B D G F H E R K L : ℕ) → 0 < S → Q ≡ P * S → D + (Y + A) ≡ X + B → G * S ≤ D * suc S → D ≤ Q → E + F ≡ G + H → R * S ≤ E * suc S → E ≤ Q
     → K * S ≤ F * suc S → F ≤ Q → H * S ≤ L * suc S → L ≤ Q → Y + A + K + R ≤ X + B + L + 4 * P
@@ -45,9 +44,6 @@ core-down S P Q X Y A B D G F H E R K L S0 q d a b e f g h i j k =
     let f' : K ≤ F + P = one-up S P Q K F S0 q h i in
     let l' : H ≤ L + P = one-up S P Q H L S0 q j k in
     omega arith
-  where
-    one-up : (S P Q a b : ℕ) → 0 < S → Q ≡ P * S → a * S ≤ b * suc S → b ≤ Q → a ≤ b + P
-    one-up S P Q a b S0 q h l = le-of-mul-le-mul-right {k = S} (omega arith) S0
 
 abbrev fr : (t d : ℕ) → 0 < d → Frac
 fr t d h = record { top = t; bot = d; good = h }

@@ -1,10 +1,10 @@
 -- The power of two that the exponential's steps make from its exponent's field: 2 ^ n / 2 ^ 2048 for n from 1026 to 3071. Assumes nothing.
 use mathlib.Core.Path.{_≡_, refl, sym, ap, _∙_, subst}
 use Prim.Native.Nat.{ℕ, zero, suc, _+_, _-_, _*_, _/_, _%_, _^_, _≤_, _<_}
-use native.Mathlib.Nat.{mul-mod-left, mul-div-cancel, mod-eq-of-lt, not-le-of-lt, pow-suc, mul-pos}
+use native.Mathlib.Nat.{mul-mod-left, mul-div-cancel, mod-eq-of-lt, not-le-of-lt, pow-suc}
 use native.Mathlib.Omega.{arith}
 use mathlib.Core.Bool.{Bool, true, false, cond, true≢false}
-use lib.Dec.{T, leb, leb→le, eqb, eqb→eq, lit≤}
+use lib.Dec.{leb, leb→le, eqb, eqb→eq, lit≤}
 use lib.Pow.{pow-add, pow-pos}
 use lib.Ieee.{Float, nan, inf, binary64, odd, ofFields, ofBits}
 use lib.Ieee.Exact.{HasValue, odd-sign}

@@ -2,8 +2,8 @@
 -- rounded once, and u = K / Q the whole number nearest z; u - 131072 = (Kp - Kn) / Q. Then x less that times 0.0108304246959.. lies between 0.002 and 0.014.
 -- Nothing here is about floats. Assumes nothing.
 use mathlib.Core.Path.{_≡_}
-use Prim.Native.Nat.{ℕ, suc, _+_, _*_, _^_, _≤_, _<_}
-use native.Mathlib.Nat.{mul-le-mul-right, mul-le-mul-left, le-of-mul-le-mul-right, le-trans}
+use Prim.Native.Nat.{ℕ, _+_, _*_, _≤_, _<_}
+use native.Mathlib.Nat.{mul-le-mul-right, mul-le-mul-left, le-of-mul-le-mul-right}
 use native.Mathlib.Omega.{arith}
 
 -- a ≤ b * q / p and q / p ≤ u / v

@@ -2,20 +2,20 @@
 -- difference that lies between 0.00199 and 0.01401. So r is above zero and never tiny, whatever the signs of x and m. Assumes nothing.
 use mathlib.Core.Path.{_≡_, refl, sym, ap, ap₂, _∙_, subst}
 use mathlib.Core.Logic.{_⊎_, inl, inr}
-use Prim.Native.Nat.{ℕ, zero, suc, _+_, _-_, _*_, _^_, _≤_, _<_, zero-le}
+use Prim.Native.Nat.{ℕ, zero, suc, _+_, _-_, _*_, _^_, _≤_, _<_}
 use native.Mathlib.Nat.{le-refl, le-trans, le-of-eq, lt-of-lt-of-le, mul-pos, mul-assoc, mul-le-mul-right, mul-le-mul-left, le-of-mul-le-mul-right, mul-lt-mul-of-pos-right, zero-mul, zero-lt-suc}
 use native.Mathlib.Omega.{arith}
 use mathlib.Core.Bool.{Bool, true, false, not}
-use lib.IntN.{ℤ, pos, negsuc}
+use lib.IntN.{pos, negsuc}
 use lib.Dec.{T, leb, leb→le, nleb→lt, lit≤}
 use lib.Pow.{pow-pos}
 use lib.Ieee.{Float, nan, inf, fin, binary64, round, sub, mul, neg, ofBits}
 use lib.Ieee.Exact.{HasValue, round-exact}
 use lib.Ieee.Scale.{finite}
-use lib.Ieee.Positive.{num, den, positive, den-pos, positive-finite}
+use lib.Ieee.Positive.{num, den, den-pos, positive-finite}
 use Rattle.numerics.specs.Frac.{Frac, big, small, Under, Close}
 use Rattle.numerics.specs.Round.{val, Rel, Normal, round-rel}
-use Rattle.numerics.specs.Nonneg.{nonneg, Rel0, round-rel0}
+use Rattle.numerics.specs.Nonneg.{nonneg, round-rel0}
 use Rattle.elementary.specs.Signed.{up-part, down-part, plus, minus, plus-positive, minus-positive, sub-signed, round-neg, plus-neg, minus-neg, den-neg, finite-neg, parts-of-value, finite-of-value}
 use Rattle.elementary.specs.Exactly.{Differs, sub-whole, mul-whole}
 use Rattle.elementary.specs.Exp.{origin, stepHigh, stepLow, countedOf, stepsOf, remainderOf}

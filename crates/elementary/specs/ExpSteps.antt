@@ -1,18 +1,18 @@
 -- The count of steps in the exponential's reduction, for a double x from -700 to 700 and not smaller than 2 ^ -54: w = 2 ^ 52 + u is the sum of
 -- x * 64 / ln 2 + 131071.25 and 2 ^ 52, each operation rounded. So u is a whole number that lies between 66430 and 195710, and x less (u - 131072) * ln 2 / 64 lies between 0.002 and 0.014. Assumes nothing.
-use mathlib.Core.Path.{_≡_, refl, sym, ap, ap₂, _∙_, subst}
-use Prim.Native.Nat.{ℕ, zero, suc, _+_, _-_, _*_, _/_, _%_, _^_, _≤_, _<_, zero-le}
+use mathlib.Core.Path.{_≡_, refl, sym, ap, ap₂, subst}
+use Prim.Native.Nat.{ℕ, _+_, _-_, _*_, _%_, _^_, _≤_, _<_, zero-le}
 use native.Mathlib.Nat.{le-refl, le-trans, le-of-eq, lt-of-lt-of-le, mul-pos, mul-assoc, mul-le-mul-right, mul-le-mul-left, le-of-mul-le-mul-right}
 use native.Mathlib.Omega.{arith}
-use mathlib.Core.Bool.{Bool, true, false, not}
+use mathlib.Core.Bool.{true, false, not}
 use lib.IntN.{ℤ, pos, negsuc}
 use lib.Dec.{T, lit≤, lt→ltb}
-use lib.Ieee.{Float, nan, inf, fin, binary64, up, down, round, add, sub, mul, neg, ofBits, toBits, isNan}
+use lib.Ieee.{Float, nan, inf, fin, binary64, up, down, add, mul, neg, ofBits, toBits, isNan}
 use lib.Ieee.Fits.{down-pos}
 use lib.Ieee.Exact.{HasValue}
 use lib.Ieee.Scale.{finite}
 use lib.Ieee.Positive.{num, den, positive, den-pos, first-pos}
-use Rattle.numerics.specs.Frac.{Frac, _⊠_, big, small, Under, Close}
+use Rattle.numerics.specs.Frac.{Frac, _⊠_, big, small, Under}
 use Rattle.numerics.specs.Round.{val, Rel, Normal, round-rel}
 use Rattle.numerics.specs.Rel.{mul-rel}
 use Rattle.elementary.specs.Signed.{plus, minus, plus-positive, minus-positive, add-signed, mul-neg, plus-neg, minus-neg, den-neg, finite-neg}

@@ -1,13 +1,11 @@
 -- e ^ (u * L + r), L the step: 2 ^ (u / 64) times the table's entry times the sum of the series to degree 6, to 4 roundings. Assumes nothing.
-use mathlib.Core.Path.{_≡_, refl, sym, ap, _∙_, subst}
-use Prim.Native.Nat.{ℕ, zero, suc, _+_, _-_, _*_, _/_, _%_, _^_, _≤_, _<_}
-use native.Mathlib.Nat.{le-refl, le-trans, le-of-eq, mul-pos, mul-one, one-mul, mul-assoc, mul-le-mul-right, mul-le-mul-left, div-add-mod', pow-suc, pow-zero, one-le-pow}
+use mathlib.Core.Path.{_≡_, sym}
+use Prim.Native.Nat.{ℕ, zero, suc, _+_, _*_, _/_, _%_, _^_, _≤_, _<_}
+use native.Mathlib.Nat.{le-of-eq, mul-le-mul-left, div-add-mod', pow-suc, pow-zero}
 use native.Mathlib.Omega.{arith}
-use lib.Dec.{T, lit≤}
-use lib.Pow.{pow-pos, pow-add}
-use lib.Ieee.{Float}
-use lib.Ieee.Positive.{num, den}
-use Rattle.numerics.specs.Frac.{Frac, _⊑_, _⊞_, _⊠_, nat, ⊑-refl, ⊑-trans, big, small, small-le, Under}
+use lib.Dec.{lit≤}
+use lib.Pow.{pow-pos}
+use Rattle.numerics.specs.Frac.{Frac, _⊑_, _⊞_, _⊠_, nat, big, small, small-le, Under}
 use Rattle.numerics.specs.Round.{val}
 use Rattle.numerics.specs.Series.{sumTop, sumBot, S, U, Above, Below, above-by, below-by, above-more, below-less}
 use Rattle.numerics.specs.Law.{times, power, above-power, below-power}
@@ -15,7 +13,7 @@ use Rattle.numerics.specs.Tail.{rho, under-rho, tail-under, power-top, power-bo
 use Rattle.elementary.specs.Bound.{Bound, rho⁻, bound-mul, bound-arg}
 use Rattle.elementary.specs.ExpGap.{step}
 use Rattle.elementary.specs.ExpTable.{tableEntry}
-use Rattle.elementary.specs.ExpTableGood.{Entry, entry-good}
+use Rattle.elementary.specs.ExpTableGood.{entry-good}
 
 -- ---- 64 steps: e ^ (64 * L) is 2, to 2 ^ -87
 abbrev pub ln2 : Frac

@@ -1,12 +1,12 @@
 -- Each entry of the exponential's table is e ^ (j * L) to 2 roundings, L the step: by one computed test over the table, and the law that turns the test into the rule. Assumes nothing.
-use mathlib.Core.Path.{_≡_, refl, sym, ap, _∙_, subst}
+use mathlib.Core.Path.{_≡_, refl, sym, subst}
 use mathlib.Core.List.{List, [], _∷_}
-use Prim.Native.Nat.{ℕ, zero, suc, _+_, _-_, _*_, _^_, _≤_, _<_}
+use Prim.Native.Nat.{ℕ, zero, suc, _+_, _*_, _≤_, _<_}
 use native.Mathlib.Omega.{arith}
-use mathlib.Core.Bool.{Bool, true, false, _&&_}
-use lib.Dec.{T, leb, leb→le, lit≤}
+use mathlib.Core.Bool.{Bool, true, _&&_}
+use lib.Dec.{T, leb, leb→le}
 use lib.ListN.{getD, length}
-use lib.Ieee.{Float, binary64, ofBits}
+use lib.Ieee.{Float, ofBits}
 use lib.Ieee.Fits.{and-l, and-r}
 use lib.Ieee.Positive.{num, den, positive}
 use Rattle.numerics.specs.Double.{bits}

@@ -1,14 +1,11 @@
 -- What the tests of `expOf` leave for its steps: a double from -700 to 700, and not smaller than 2 ^ -54 (`in-range`). Assumes nothing.
-use mathlib.Core.Path.{_≡_, refl, sym, subst, ap, _∙_}
+use mathlib.Core.Path.{_≡_, refl, sym, subst}
 use mathlib.Core.Bool.{Bool, true, false, not, _&&_, true≢false}
 use Prim.Native.Nat.{ℕ, _+_, _*_, _^_, _≤_, _<_}
-use native.Mathlib.Nat.{le-of-eq, le-trans, one-mul}
 use native.Mathlib.Omega.{arith}
-use lib.Dec.{T, ltb, ltb→lt, lt→ltb, nltb→le}
+use lib.Dec.{T, ltb, lt→ltb, nltb→le}
 use lib.Ieee.{Float, nan, inf, fin, up, down, neg, lt, eq, ne, ofBits}
 use lib.Ieee.Fits.{down-pos}
-use lib.Ieee.Scale.{finite}
-use lib.Ieee.Positive.{num, den}
 use Rattle.elementary.specs.Exp.{most, least}
 use Rattle.elementary.specs.ExpSteps.{InRange}
 

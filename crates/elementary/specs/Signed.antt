@@ -2,7 +2,7 @@
 -- on the two tops makes no case of signs. Assumes nothing.
 use mathlib.Core.Path.{_≡_, refl, sym, ap, _∙_, subst}
 use Prim.Native.Nat.{ℕ, zero, suc, _+_, _-_, _*_, _/_, _%_, _^_, _≤_, _<_, compare}
-use native.Mathlib.Nat.{not-le-of-lt, lt-irrefl, le-of-lt}
+use native.Mathlib.Nat.{not-le-of-lt}
 use native.Mathlib.Omega.{arith}
 use mathlib.Core.Bool.{Bool, true, false, not, cond}
 use lib.IntN.{ℤ}
@@ -44,14 +44,14 @@ minus-positive (fin true m e) p = absurd p
 minus-positive (fin false m e) p = refl
 
 -- ---- a sum above zero is one rounding of the difference of its two parts
-taken : (A : Type 0) (a b : ℕ) (u v : A) → a < b → cond (ltb a b) u v ≡ u
+pub taken : (A : Type 0) (a b : ℕ) (u v : A) → a < b → cond (ltb a b) u v ≡ u
 taken A a b u v h = go (ltb a b) (nltb→le a b)
   where
     go : (t : Bool) → (T (not t) → b ≤ a) → cond t u v ≡ u
     go true k = refl
     go false k = absurd (not-le-of-lt h (k tt))
 
-left : (A : Type 0) (a b : ℕ) (u v : A) → b ≤ a → cond (ltb a b) u v ≡ v
+pub left : (A : Type 0) (a b : ℕ) (u v : A) → b ≤ a → cond (ltb a b) u v ≡ v
 left A a b u v h = go (ltb a b) (ltb→lt a b)
   where
     go : (t : Bool) → (T t → a < b) → cond t u v ≡ v

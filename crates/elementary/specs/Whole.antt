@@ -1,23 +1,22 @@
 -- A double from 2 ^ 52 to 2 ^ 53 is 2 ^ 52 plus the last 52 digits of its pattern, a whole number (`whole-of`). A double z from 1 to 1000000 with 2 ^ 52 added, rounded, is one of these,
 -- and the whole number is off z by at most 0.5001 (`rounded-up`, `rounded-down`). Assumes nothing.
 use mathlib.Core.Path.{_≡_, refl, sym, ap, _∙_, subst}
-use mathlib.Core.Logic.{_⊎_, inl, inr}
-use Prim.Native.Nat.{ℕ, zero, suc, _+_, _-_, _*_, _/_, _%_, _^_, _≤_, _<_}
-use native.Mathlib.Nat.{le-trans, le-of-eq, lt-of-lt-of-le, lt-of-le-of-lt, le-total, lt-irrefl, mod-lt, mul-pos, mul-le-mul-right, mul-le-mul-left, le-of-mul-le-mul-right, mul-lt-mul-of-pos-right, le-of-suc-le-suc, lt-of-not-le, le-antisymm}
+use Prim.Native.Nat.{ℕ, suc, _+_, _-_, _*_, _/_, _%_, _^_, _≤_, _<_}
+use native.Mathlib.Nat.{le-trans, le-of-eq, lt-of-lt-of-le, lt-of-le-of-lt, lt-irrefl, mod-lt, mul-pos, mul-le-mul-right, mul-le-mul-left, le-of-mul-le-mul-right, mul-lt-mul-of-pos-right, le-of-suc-le-suc, lt-of-not-le, le-antisymm}
 use native.Mathlib.Omega.{arith}
-use mathlib.Core.Bool.{Bool, true, false}
+use mathlib.Core.Bool.{false}
 use lib.IntN.{pos}
 use lib.Dec.{T, lit≤}
 use lib.Pow.{pow-pos, pow-mono}
-use lib.Ieee.{Float, nan, inf, fin, binary64, add, toBits, fits}
+use lib.Ieee.{Float, fin, binary64, add, toBits, fits}
 use lib.Ieee.Fits.{add-fits}
 use lib.Ieee.Exact.{HasValue}
 use lib.Ieee.Positive.{num, den, positive, den-pos, value→cross}
-use Rattle.numerics.specs.Frac.{Frac, _⊞_, big, small, small-suc, small-pos}
-use Rattle.numerics.specs.Round.{val, Rel, Normal}
+use Rattle.numerics.specs.Frac.{_⊞_, big, small, small-suc, small-pos}
+use Rattle.numerics.specs.Round.{val, Rel}
 use Rattle.numerics.specs.Rel.{add-rel}
 use Rattle.numerics.specs.Pow2.{rescale}
-use Rattle.numerics.specs.Fields.{Parts, parts-of}
+use Rattle.numerics.specs.Fields.{parts-of}
 
 -- ---- the exponent's field
 not-less : (P t X N D : ℕ) → 0 < D → t < P → 2 * X ≤ P → N * P ≡ (P + t) * X * D → P * D ≤ N → ⊥
@@ -50,9 +49,6 @@ field t j N D D0 l e h k =
     (le-of-suc-le-suc (lt-of-not-le (λ (g : suc j ≤ 52). not-less (2 ^ 52) t (2 ^ j) N D D0 l (le-trans (mul-le-mul-left 2 (pow-mono {i = j} {j = 51} (le-of-suc-le-suc g))) (lit≤ tt)) e h)))
 
 module _ (w : Float) (f : T (fits binary64 w)) (p : T (positive w)) (low : 2 ^ 52 * den w ≤ num w) (high : num w < 2 * 2 ^ 52 * den w) where
-  t : ℕ
-  t = toBits binary64 w % 2 ^ 52
-
   pub whole-of : HasValue w false (2 ^ 52 + toBits binary64 w % 2 ^ 52) 1
   whole-of =
       let b = toBits binary64 w in

@@ -1,6 +1,6 @@
 -- `elementary::exp::exp` meets its contract: each way out is the one that the same tests choose in the definition.
-use mathlib.Core.Path.{_≡_, refl, _∙_}
-use lib.Ieee.{Float, nan, inf, binary64, div, ofBits}
+use mathlib.Core.Path.{_≡_, refl}
+use lib.Ieee.{nan, inf, binary64, div, ofBits}
 use mathlib.Core.Bool.{false}
 use Rattle.elementary.specs.Exp.{expOf}
 use Rattle.elementary.specs.ExpTests.{in-range}

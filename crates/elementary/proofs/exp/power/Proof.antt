@@ -1,5 +1,5 @@
 -- `elementary::exp::power` meets its contract: the field is below 2047, so the pattern is no NaN's.
-use mathlib.Core.Path.{_≡_, refl, _∙_}
+use mathlib.Core.Path.{refl, _∙_}
 use mathlib.Core.Bool.{not}
 use Prim.Native.Nat.{ℕ, _%_, _≤_}
 use native.Mathlib.Omega.{arith}

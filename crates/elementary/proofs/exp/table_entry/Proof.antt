@@ -1,5 +1,5 @@
 -- `elementary::exp::table_entry` meets its contract: an arm's constant is the table's entry, computed; the last arm is left only 63.
-use mathlib.Core.Path.{_≡_, sym, ap, subst}
+use mathlib.Core.Path.{_≡_, sym, ap}
 use Prim.Native.Nat.{ℕ, _≤_, _<_}
 use native.Mathlib.Omega.{arith}
 use Rattle.elementary.specs.ExpTable.{tableEntry, twoToSixtyFourths}

@@ -1,5 +1,4 @@
 -- `elementary::exp::within` meets its contract: the count of steps is a number, and in the range that the power of two asks for.
-use mathlib.Core.Path.{_≡_}
 use Prim.Native.Nat.{ℕ, _≤_, _<_, _/_}
 use native.Mathlib.Omega.{arith}
 use borrow.Author.Needs.{needs}
