@@ -1,9 +1,9 @@
 -- The steps of the elementary functions, and their distances from the exact values. To read for exp: Exp with ExpTable, its steps, and ExpDistance, the theorem;
 -- the other modules are the theorem's proof, each before those that use it.
 pub mod Match
+pub mod Signed
 pub mod Exactly
 pub mod Whole
-pub mod Signed
 pub mod Bound
 pub mod ExpTable
 pub mod Exp
