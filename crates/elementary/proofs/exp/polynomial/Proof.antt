@@ -1,0 +1,12 @@
+-- `elementary::exp::polynomial` meets its contract.
+use mathlib.Core.Path.{refl}
+use Rattle.elementary.specs.Exp.{polynomialOf}
+use Rattle.elementary.proofs.exp.polynomial.Statement.{statement}
+use Rattle.elementary.proofs.exp.polynomial.Tie as tie
+
+returns : tie.Need-returns
+unfolding polynomialOf
+returns c = refl
+
+pub polynomial-spec : {M : Type 1} → statement M
+polynomial-spec = tie.close (tie.spec returns)

@@ -1,0 +1,12 @@
+-- `elementary::exp::remainder` meets its contract.
+use mathlib.Core.Path.{refl}
+use Rattle.elementary.specs.Exp.{remainderOf}
+use Rattle.elementary.proofs.exp.remainder.Statement.{statement}
+use Rattle.elementary.proofs.exp.remainder.Tie as tie
+
+returns : tie.Need-returns
+unfolding remainderOf
+returns c = refl
+
+pub remainder-spec : {M : Type 1} → statement M
+remainder-spec = tie.close (tie.spec returns)
