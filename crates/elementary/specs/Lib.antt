@@ -1,0 +1,3 @@
+-- The steps of the elementary functions.
+pub mod LnTable
+pub mod Ln

@@ -1,0 +1,2 @@
+// The elementary functions.
+pub mod ln;
