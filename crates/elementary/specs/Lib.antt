@@ -1,3 +1,4 @@
 -- The steps of the elementary functions.
 pub mod LnTable
 pub mod Ln
+pub mod LnFields

@@ -1,32 +1,46 @@
+-- `elementary::ln::ln` meets its contract. Assumes nothing.
+use mathlib.Core.Path.{sym, subst, _∙_}
+use lib.Dec.{T}
+use lib.Ieee.{binary64, fits}
+use lib.Ieee.Positive.{positive}
+use Rattle.elementary.specs.Ln.{lnOf}
+use Rattle.elementary.specs.LnFields.{positive-tested, positive-number, pattern-pos, pattern-below}
+use Rattle.elementary.proofs.Patterns.{zero-over-zero, minus-one-over-zero}
 use Rattle.elementary.proofs.ln.ln.Statement.{statement}
 use Rattle.elementary.proofs.ln.ln.Tie as tie
 use Rattle.elementary.proofs.ln.ln.Reads as reads
 use Rattle.elementary.proofs.ln.ln.Lts as lts
 use Rattle.elementary.proofs.ln.ln_pattern.Reads as ln-pattern-reads
 
--- src/ln.rt:192:13
 returns : tie.Need-returns
-returns c = ?
+unfolding lnOf
+returns c = minus-one-over-zero ∙ rw (c .before .if1 .taken, c .if2 .taken)
 
--- src/ln.rt:195:13
 returns-2 : tie.Need-returns-2
-returns-2 c = ?
+unfolding lnOf
+returns-2 c = rw (c .before .before .if1 .taken, c .before .if2 .left, c .if3 .taken)
 
--- src/ln.rt:197:27
+-- what owning an `f64` tells: the format holds it
+held : (c : tie.Start) → T (fits binary64 (c .args .x))
+held c = subst T (sym (c .good .0 .1)) tt
+
+-- what passes the three tests is positive and finite
+tested : (c : lts.Else3 (ln-pattern-reads.Asked, ln-pattern-reads.Learnt) reads.Pre reads.Post) → T (positive (c .before .before .before .args .x))
+tested c = positive-tested (c .before .before .before .args .x) (c .before .before .if1 .taken) (c .before .if2 .left) (c .if3 .left)
+
 float-to-bits-ln-pattern : tie.Need-float-to-bits-ln-pattern
-float-to-bits-ln-pattern c = ?
+float-to-bits-ln-pattern c = positive-number (c .before .before .before .args .x) (tested c)
 
--- src/ln.rt:197:9
 ln-pattern-requires : tie.Need-ln-pattern-requires
-ln-pattern-requires c κs = ?
+ln-pattern-requires c κs = (pattern-pos (c .before .before .before .args .x) (held (c .before .before .before)) (tested c), pattern-below (c .before .before .before .args .x) (held (c .before .before .before)) (tested c))
 
--- src/ln.rt:197:9
 returns-3 : tie.Need-returns-3
-returns-3 c = ?
+unfolding lnOf
+returns-3 c = c .ln-pattern .ensures ∙ rw (c .before .before .before .if1 .taken, c .before .before .if2 .left, c .before .if3 .left)
 
--- src/ln.rt:187:1
 returns-4 : tie.Need-returns-4
-returns-4 c = ?
+unfolding lnOf
+returns-4 c = zero-over-zero ∙ rw (c .if1 .left)
 
 pub ln-spec : {M : Type 1} → statement M
 ln-spec =
