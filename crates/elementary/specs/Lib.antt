@@ -2,3 +2,8 @@
 pub mod LnTable
 pub mod Ln
 pub mod LnFields
+pub mod LnDistanceTwo
+pub mod LnDistanceStep
+pub mod LnDistanceTable
+pub mod LnDistancePolynomial
+pub mod LnDistanceRatio
