@@ -7,3 +7,4 @@ pub mod LnDistanceStep
 pub mod LnDistanceTable
 pub mod LnDistancePolynomial
 pub mod LnDistanceRatio
+pub mod LnDistanceSignificand
