@@ -8,3 +8,4 @@ pub mod LnDistanceTable
 pub mod LnDistancePolynomial
 pub mod LnDistanceRatio
 pub mod LnDistanceSignificand
+pub mod LnDistanceExact
