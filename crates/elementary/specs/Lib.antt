@@ -9,3 +9,4 @@ pub mod LnDistancePolynomial
 pub mod LnDistanceRatio
 pub mod LnDistanceSignificand
 pub mod LnDistanceExact
+pub mod LnDistanceError
