@@ -10,3 +10,5 @@ pub mod LnDistanceRatio
 pub mod LnDistanceSignificand
 pub mod LnDistanceExact
 pub mod LnDistanceError
+pub mod LnDistanceSigns
+pub mod LnDistanceSum
