@@ -12,3 +12,4 @@ pub mod LnDistanceExact
 pub mod LnDistanceError
 pub mod LnDistanceSigns
 pub mod LnDistanceSum
+pub mod LnDistanceParts

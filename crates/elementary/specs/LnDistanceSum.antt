@@ -16,6 +16,7 @@ use lib.Ieee.Fits.{and-l, and-r, up-pos, mul-fits, add-fits}
 use lib.Ieee.Scale.{round-same}
 use lib.Ieee.Positive.{num, den, positive, den-pos, value→cross, positive-of-value}
 use Rattle.numerics.specs.Frac.{Frac, _⊑_, _⊞_, _⊠_, nat, big, small, small-pos, Close, close-same, close-refl}
+use Rattle.numerics.specs.Law.{times}
 use Rattle.numerics.specs.Round.{val, Rel}
 use Rattle.numerics.specs.Rel.{less, under-double, sub-is}
 use Rattle.numerics.specs.Nonneg.{nonneg, Rel0, Fine, Broad, round-rel0, fine-of-close, rel0-of-rel, rel0-mul, nonneg-value, nonneg-positive, add-is0}
@@ -105,6 +106,10 @@ module _ (n : ℕ) (n-few : n ≤ 1074) where
   pub shift-rel : Rel0 2 (shift n) (nat n ⊠ ln2)
   shift-rel = rel0-mul 0 1 (whole n) ln2-double (nat n) ln2 n-rel (rel0-of-rel 1 ln2-double ln2 ln2-rel) (lit≤ tt) (broad-den (nat n ⊠ ln2) (lit≤ tt) (le-trans shift-top (lit≤ tt)))
 
+  -- the same of the fraction as `times` has it
+  pub shift-close : Close 2 (val (shift n)) (times n ln2)
+  shift-close = record { le = shift-rel .near .le; ge = shift-rel .near .ge }
+
 -- ---- a double that is close to a fraction has few digits below the point
 short-zero : (u d : ℕ) → 0 < u → u * d ≡ 1 → d ≤ 1
 short-zero u d U h = le-trans (le-of-eq (sym (one-mul d))) (le-trans (mul-le-mul-right d U) (le-of-eq h))
@@ -159,10 +164,10 @@ module _ (e : ℕ) (v : Float) (q : Frac) (few : e ≤ 1000) (r : Rel0 e v q) wh
 
 -- ---- the sum of n ln2 and ln m, and their difference
 module _ (n t : ℕ) (n-few : n ≤ 1074) (t-few : t < 2 ^ 52) where
-  abbrev b : Float
+  abbrev pub b : Float
   b = shift n
 
-  abbrev a : Float
+  abbrev pub a : Float
   a = lnSignificand t
 
   a-fits : T (fits binary64 a)
@@ -199,7 +204,7 @@ module _ (n t : ℕ) (n-few : n ≤ 1074) (t-few : t < 2 ^ 52) where
   pub sum-rel : Rel0 1 (add binary64 b a) (val b ⊞ val a)
   sum-rel = rw (add-is0 binary64 b a (shift-rel n n-few .sign) (significand-rel t t-few .sign)) (round-rel0 (val b ⊞ val a) (fine (val b ⊞ val a) refl (le-refl (num b * den a + num a * den b))))
 
-  abbrev over : Float
+  abbrev pub over : Float
   over = round binary64 false (num a * den b - num b * den a) (den b * den a)
 
   pub over-is : num b * den a ≤ num a * den b → add binary64 (neg b) a ≡ over
@@ -213,7 +218,7 @@ module _ (n t : ℕ) (n-few : n ≤ 1074) (t-few : t < 2 ^ 52) where
       less-most : (x y : ℕ) → x - y ≤ y + x
       less-most x y = omega arith
 
-  abbrev under : Float
+  abbrev pub under : Float
   under = round binary64 false (num b * den a - num a * den b) (den b * den a)
 
   pub under-is : num a * den b < num b * den a → add binary64 (neg b) a ≡ neg under
