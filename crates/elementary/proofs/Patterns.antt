@@ -1,6 +1,6 @@
 -- Which patterns are no NaN's, and what the quotients of literals are. Assumes nothing.
 use mathlib.Core.Path.{_≡_, refl, _∙_}
-use mathlib.Core.Bool.{true, not}
+use mathlib.Core.Bool.{true, false, not}
 use Prim.Native.Nat.{ℕ, _%_, _≤_}
 use lib.Dec.{T, le→leb}
 use lib.IntN.{pos}
@@ -15,6 +15,10 @@ no-nan n h = rw (nanBits-above binary64 n ∙ le-ltb _ _ h) tt
 pub zero-over-zero : div binary64 (ofBits binary64 0) (ofBits binary64 0) ≡ nan
 unfolding div ofBits
 zero-over-zero = refl
+
+pub one-over-zero : div binary64 (ofBits binary64 0x3ff0_0000_0000_0000) (ofBits binary64 0) ≡ inf false
+unfolding div ofBits
+one-over-zero = refl
 
 pub minus-one-over-zero : div binary64 (neg (ofBits binary64 0x3ff0_0000_0000_0000)) (ofBits binary64 0) ≡ inf true
 unfolding div ofBits neg

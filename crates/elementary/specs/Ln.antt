@@ -1,10 +1,10 @@
 -- The steps of ln, which fix the bits of each answer (document 01, "Elementary functions").
-use mathlib.Core.Bool.{Bool, true, not}
+use mathlib.Core.Bool.{true, false}
 use Prim.Native.Nat.{ℕ, _+_, _-_, _*_, _/_, _%_, _^_}
 use lib.Count.{leadingZeros}
 use lib.Dec.{ltb}
 use lib.IntN.{pos}
-use lib.Ieee.{Float, nan, inf, binary64, ofInt, toBits, le, lt, eq}
+use lib.Ieee.{Float, nan, inf, binary64, ofInt, toBits, le, eq}
 use lib.ListN.{getD}
 use Rattle.numerics.specs.Double.{_⊕_, _⊖_, _⊗_, _⊘_, bits, +0, two, pick}
 use Rattle.elementary.specs.LnTable.{logTable}
@@ -43,4 +43,4 @@ lnPattern b =
 
 -- ln x: "±0 gives −infinity, +infinity itself", "all else, NaN included, gives NaN"
 unfoldable pub lnOf : Float → Float
-lnOf x = pick (le +0 x) (pick (eq x +0) (inf true) (pick (lt (bits 0x7fef_ffff_ffff_ffff) x) x (lnPattern (toBits binary64 x)))) nan
+lnOf x = pick (le +0 x) (pick (eq x +0) (inf true) (pick (eq x (inf false)) x (lnPattern (toBits binary64 x)))) nan

@@ -130,7 +130,7 @@ not-zero m u d U t =
     let h : 0 < suc m * u = mul-pos (zero-lt-suc m) U in
     omega arith
 
-pub positive-tested : (x : Float) → le +0 x ≡ true → eq x +0 ≡ false → lt (bits 0x7fef_ffff_ffff_ffff) x ≡ false → T (positive x)
+pub positive-tested : (x : Float) → le +0 x ≡ true → eq x +0 ≡ false → eq x (inf false) ≡ false → T (positive x)
 unfolding le lt eq ofBits
 positive-tested nan p q r = absurd (subst T (sym p) tt)
 positive-tested (inf true) p q r = absurd (subst T (sym p) tt)

@@ -191,7 +191,7 @@ pub fn ln(x: f64) -> f64
         if x == 0.0 {
             return -1.0 / 0.0;
         }
-        if x > 1.7976931348623157e308 {
+        if x == 1.0 / 0.0 {
             return x;
         }
         return ln_pattern(f64::to_bits(x));
