@@ -2,6 +2,8 @@
 pub mod LnTable
 pub mod Ln
 pub mod LnFields
+pub mod LnMatch
+pub mod LnPatterns
 pub mod LnDistanceTwo
 pub mod LnDistanceStep
 pub mod LnDistanceTable
@@ -13,3 +15,4 @@ pub mod LnDistanceError
 pub mod LnDistanceSigns
 pub mod LnDistanceSum
 pub mod LnDistanceParts
+pub mod LnDistanceDouble

@@ -28,11 +28,15 @@ pub record IsLn (x y δ : Frac) : Type 0 where
   pub low : LE y x δ
   pub high : Below (y ⊞ δ) x
 
+-- l / 2^p
+abbrev pub share : ℕ → Frac → Frac
+share p l = record { top = l .top; bot = l .bot * 2 ^ p; good = mul-pos (l .good) (pow-pos p) }
+
 -- y is ln x within 2^-48 times `size`, which is at most 1, or at most ln x
 pub record Near (x y : Frac) : Type 0 where
   pub size : Frac
   pub modest : (size ⊑ nat 1) ⊎ Above size x
-  pub near : IsLn x y (record { top = size .top; bot = size .bot * 2 ^ 48; good = mul-pos (size .good) (pow-pos 48) })
+  pub near : IsLn x y (share 48 size)
 
 -- ---- sums of fractions
 cancel : (p q e : Frac) → p ⊞ e ⊑ q ⊞ e → p ⊑ q
@@ -81,11 +85,11 @@ module _ (x y : Frac) (X : 0 < x .top) (low : LE y x (error y ⊞ slack)) (high 
       most = record { top = 31 * y .top; bot = 32 * y .bot; good = mul-pos (lit≤ tt) (y .good) }
 
       go : (c : Bool) → (T c → y .top ≤ y .bot) → (T (not c) → y .bot < y .top) → Near x y
-      go true p q = record { size = nat 1; modest = inl (le-refl 1); near = within (record { top = 1; bot = 1 * 2 ^ 48; good = mul-pos (le-refl 1) (pow-pos 48) }) (small (y .top) (y .bot) (2 ^ 48) (p tt)) }
+      go true p q = record { size = nat 1; modest = inl (le-refl 1); near = within (share 48 (nat 1)) (small (y .top) (y .bot) (2 ^ 48) (p tt)) }
       go false p q = record {
         size = most;
         modest = inr (deep most (room (y .top) (y .bot) (2 ^ 48) (lit≤ tt) (le-of-lt (q tt))));
-        near = within (record { top = 31 * y .top; bot = 32 * y .bot * 2 ^ 48; good = mul-pos (mul-pos (lit≤ tt) (y .good)) (pow-pos 48) }) (large (y .top) (y .bot) (2 ^ 48) (le-of-lt (q tt)));
+        near = within (share 48 most) (large (y .top) (y .bot) (2 ^ 48) (le-of-lt (q tt)));
       }
 
 -- ---- the three ways: k from 0 up; k below 0 with an answer from 0 up; k below 0 with an answer below 0

@@ -8,7 +8,7 @@ use native.Mathlib.Nat.{mul-one, one-mul, zero-mul, lt-of-not-le, lt-of-lt-of-le
 use native.Mathlib.Omega.{arith}
 use borrow.Author.Tests.{leb-false, ne-eqb, lt-leb, lt-ltb}
 use lib.Count.{leadingZeros, leading-top}
-use lib.Dec.{T, leb, eqb, eqb→eq}
+use lib.Dec.{T, leb, eqb, eqb→eq, ltb→lt}
 use lib.Pow.{pow-pos, pow-mono, pow-add}
 use lib.IntN.{pos}
 use lib.Ieee.{Float, nan, inf, fin, binary64, up, down, odd, ofFields, ofBits, toBits, fits, isNan, le, lt, eq}
@@ -145,3 +145,17 @@ unfolding isNan
 positive-number nan p = absurd p
 positive-number (inf s) p = absurd p
 positive-number (fin s m e) p = tt
+
+-- and the other way round
+pub positive-tests : (x : Float) → T (positive x) → (le +0 x ≡ true) × (eq x +0 ≡ false) × (eq x (inf false) ≡ false)
+unfolding le lt eq ofBits
+positive-tests nan p = absurd p
+positive-tests (inf s) p = absurd p
+positive-tests (fin true m e) p = absurd p
+positive-tests (fin false m e) p =
+    let h : 0 < m * up e = mul-pos (ltb→lt 0 m p) (up-pos e) in
+    let z : 0 * down e ≡ 0 = zero-mul (down e) in (
+      rw (lt-ltb (0 * down e) (m * up e * 1) (omega arith)),
+      rw (ne-eqb (m * up e * 1) (0 * down e) (λ k. omega arith)),
+      refl,
+    )

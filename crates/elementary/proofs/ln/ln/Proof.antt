@@ -5,7 +5,7 @@ use lib.Ieee.{binary64, fits}
 use lib.Ieee.Positive.{positive}
 use Rattle.elementary.specs.Ln.{lnOf}
 use Rattle.elementary.specs.LnFields.{positive-tested, positive-number, pattern-pos, pattern-below}
-use Rattle.elementary.proofs.Patterns.{zero-over-zero, one-over-zero, minus-one-over-zero}
+use Rattle.elementary.specs.LnPatterns.{zero-over-zero, one-over-zero, minus-one-over-zero}
 use Rattle.elementary.proofs.ln.ln.Statement.{statement}
 use Rattle.elementary.proofs.ln.ln.Tie as tie
 use Rattle.elementary.proofs.ln.ln.Reads as reads

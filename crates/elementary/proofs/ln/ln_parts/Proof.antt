@@ -1,7 +1,7 @@
 -- `elementary::ln::ln_parts` meets its contract. Assumes nothing.
 use native.Mathlib.Omega.{arith}
 use Rattle.elementary.specs.Ln.{lnParts}
-use Rattle.elementary.proofs.Patterns.{whole-double}
+use Rattle.elementary.specs.LnPatterns.{whole-double}
 use borrow.Author.Needs.{needs}
 use Rattle.elementary.proofs.ln.ln_parts.Statement.{statement}
 use Rattle.elementary.proofs.ln.ln_parts.Tie as tie

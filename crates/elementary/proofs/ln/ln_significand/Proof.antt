@@ -1,7 +1,7 @@
 -- `elementary::ln::ln_significand` meets its contract. Assumes nothing.
 use native.Mathlib.Omega.{arith}
 use Rattle.elementary.specs.Ln.{lnSignificand}
-use Rattle.elementary.proofs.Patterns.{no-nan}
+use Rattle.elementary.specs.LnPatterns.{no-nan}
 use borrow.Author.Needs.{needs}
 use Rattle.elementary.proofs.ln.ln_significand.Statement.{statement}
 use Rattle.elementary.proofs.ln.ln_significand.Tie as tie

@@ -1,7 +1,7 @@
 -- `elementary::ln::log_node` meets its contract: each arm gives its entry of the table. Assumes nothing.
 use mathlib.Core.Path.{refl}
 use Rattle.elementary.specs.LnTable.{logTable}
-use Rattle.elementary.proofs.Table.{arm, last-arm}
+use Rattle.elementary.specs.LnMatch.{arm, last-arm}
 use Rattle.elementary.proofs.ln.log_node.Statement.{statement}
 use Rattle.elementary.proofs.ln.log_node.Tie as tie
 

@@ -1,3 +1,0 @@
--- Laws of this crate that belong to no one function.
-pub mod Table
-pub mod Patterns
