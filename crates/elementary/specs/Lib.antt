@@ -2,6 +2,7 @@
 pub mod LnTable
 pub mod Ln
 pub mod LnFields
+pub mod LnLaws
 pub mod LnMatch
 pub mod LnPatterns
 pub mod LnDistanceTwo

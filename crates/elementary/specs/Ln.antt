@@ -17,11 +17,24 @@ logNode i = bits (getD logTable i 0)
 abbrev pub significand : ℕ → Float
 significand t = bits (t + 0x3ff0_0000_0000_0000)
 
+-- the doubles nearest ln 2, 2/3, 2/5 and 2/7
+abbrev pub ln2 : Float
+ln2 = bits 0x3fe6_2e42_fefa_39ef
+
+abbrev pub twoThirds : Float
+twoThirds = bits 0x3fe5_5555_5555_5555
+
+abbrev pub twoFifths : Float
+twoFifths = bits 0x3fd9_9999_9999_999a
+
+abbrev pub twoSevenths : Float
+twoSevenths = bits 0x3fd2_4924_9249_2492
+
 -- s (2 + z (2/3 + z (2/5 + z 2/7))), z = s s: the terms of ln ((1 + s) / (1 - s)) up to s^7
 unfoldable pub lnRatio : Float → Float
 lnRatio s =
     let z = s ⊗ s in
-    s ⊗ (two ⊕ z ⊗ (bits 0x3fe5_5555_5555_5555 ⊕ z ⊗ (bits 0x3fd9_9999_9999_999a ⊕ z ⊗ bits 0x3fd2_4924_9249_2492)))
+    s ⊗ (two ⊕ z ⊗ (twoThirds ⊕ z ⊗ (twoFifths ⊕ z ⊗ twoSevenths)))
 
 -- ln m for m = 1 + t / 2^52, by the node c = 1 + i / 128 next below it: ln c + ln ((1 + s) / (1 - s)), s = (m - c) / (m + c)
 unfoldable pub lnSignificand : ℕ → Float
@@ -33,7 +46,7 @@ lnSignificand t =
 
 -- ln (2^k m) = k ln 2 + ln m; e is k + 1087, so that it is a natural number for the least subnormal too
 unfoldable pub lnParts : ℕ → ℕ → Float
-lnParts e t = (ofInt binary64 (pos e) ⊖ bits 0x4090_fc00_0000_0000) ⊗ bits 0x3fe6_2e42_fefa_39ef ⊕ lnSignificand t
+lnParts e t = (ofInt binary64 (pos e) ⊖ bits 0x4090_fc00_0000_0000) ⊗ ln2 ⊕ lnSignificand t
 
 -- from the bit pattern b of a positive finite double; "a subnormal is first scaled by the place of its highest set bit"
 unfoldable pub lnPattern : ℕ → Float

@@ -2,27 +2,24 @@
 use mathlib.Core.Path.{_≡_, refl, sym, ap, _∙_, subst}
 use mathlib.Core.Bool.{Bool, true, false, not}
 use mathlib.Core.Logic.{_⊎_, inl, inr}
-use Prim.Native.Nat.{ℕ, zero, suc, _+_, _-_, _*_, _/_, _%_, _^_, _≤_, _<_}
-use native.Mathlib.Nat.{le-refl, le-trans, le-of-eq, lt-of-lt-of-le, mul-pos, mul-one, mul-assoc, mod-lt, add-sub-of-le, eq-of-mul-eq-mul-right}
+use Prim.Native.Nat.{ℕ, _+_, _-_, _*_, _/_, _%_, _^_, _≤_, _<_}
+use native.Mathlib.Nat.{le-of-eq, lt-of-lt-of-le, mod-lt, add-sub-of-le, eq-of-mul-eq-mul-right}
 use native.Mathlib.Omega.{arith}
-use borrow.Author.Tests.{lt-ltb, le-ltb}
 use lib.Count.{leadingZeros}
 use lib.Dec.{T, ltb, leb, leb→le, nleb→lt, ltb→lt, nltb→le, lit≤}
 use lib.Pow.{pow-pos, pow-add}
-use lib.IntN.{ℤ}
 use lib.Ieee.{Float, nan, inf, fin, binary64, add, neg, toBits, fits}
-use lib.Ieee.Exact.{HasValue}
-use lib.Ieee.Positive.{num, den, positive, den-pos, value→cross}
+use lib.Ieee.Positive.{num, den, positive, value→cross}
 use Rattle.numerics.specs.Frac.{Frac, _⊞_}
-use Rattle.numerics.specs.Series.{Above, above-more, below-less}
-use Rattle.numerics.specs.Exp.{LE, LE-more}
+use Rattle.numerics.specs.Series.{above-more, below-less}
+use Rattle.numerics.specs.Exp.{LE-more}
 use Rattle.numerics.specs.Round.{val}
 use Rattle.numerics.specs.Nonneg.{nonneg}
 use Rattle.numerics.specs.Rel.{num-pos}
 use Rattle.elementary.specs.Ln.{lnSignificand, lnParts, lnPattern, lnOf}
 use Rattle.elementary.specs.LnFields.{highest-bit, positive-tests, pattern-pos, pattern-below, normal-is, subnormal-is}
 use Rattle.elementary.specs.LnDistanceExact.{scaled, flipped}
-use Rattle.elementary.specs.LnDistanceParts.{IsLn, share, Near, from-one, over-one, under-one}
+use Rattle.elementary.specs.LnDistanceParts.{share, Near, from-one, over-one, under-one}
 use Rattle.elementary.specs.LnDistanceSum as sum
 
 -- 1 / x

@@ -1,8 +1,8 @@
 -- The error of ln's last two operations, as an absolute one: with a 26 roundings from A ≤ 0.7 and b 2 roundings from N, a rounded b + a, a - b or b - a differs from N + A, A - N or N - A
 -- by at most `error y` = (21 + 5 y) / 2^53, y the rounded one. Assumes nothing.
-use mathlib.Core.Path.{_≡_, sym, ap, _∙_}
+use mathlib.Core.Path.{_≡_, ap}
 use Prim.Native.Nat.{ℕ, _+_, _-_, _*_, _^_, _≤_, _<_}
-use native.Mathlib.Nat.{le-trans, le-of-eq, mul-pos, mul-le-mul-right, mul-le-mul-left, le-of-mul-le-mul-right, one-le-pow, sub-add-cancel}
+use native.Mathlib.Nat.{mul-pos, mul-le-mul-right, mul-le-mul-left, le-of-mul-le-mul-right, one-le-pow, sub-add-cancel}
 use native.Mathlib.Omega.{arith}
 use lib.Dec.{lit≤}
 use lib.Pow.{pow-pos}

@@ -1,13 +1,13 @@
 -- x = m 2^i / 2^j with m = 1 + t / 2^52, against the exact sum i ln2 + log-of t - j ln2: what is at most that sum has an exponential at most x, and what is at least it one at
 -- least x, up to a tiny `slack` in the exponent. Exponents of either sign are differences u - v (`LE u q v` is e^u ≤ q e^v), so no case is made of signs. Assumes nothing.
-use mathlib.Core.Path.{_≡_, refl, ap}
+use mathlib.Core.Path.{_≡_}
 use Prim.Native.Nat.{ℕ, _+_, _*_, _^_, _≤_, _<_}
-use native.Mathlib.Nat.{le-refl, le-trans, le-of-eq, mul-pos, mul-le-mul, mul-le-mul-right, le-of-mul-le-mul-right, one-le-pow, lt-of-lt-of-le, le-add-right, pow-suc, pow-zero}
+use native.Mathlib.Nat.{le-trans, le-of-eq, mul-pos, mul-le-mul, mul-le-mul-right, le-of-mul-le-mul-right, one-le-pow, lt-of-lt-of-le, le-add-right, pow-suc, pow-zero}
 use native.Mathlib.Omega.{arith}
 use lib.Dec.{lit≤}
 use lib.Pow.{pow-pos}
 use Rattle.numerics.specs.Frac.{Frac, _⊑_, _⊞_, _⊠_, nat, ⊑-refl, ⊑-trans, big, small, small-pos, big-pos}
-use Rattle.numerics.specs.Series.{sumTop, sumBot, S, Above, Below, S-arg}
+use Rattle.numerics.specs.Series.{sumTop, sumBot, S, Above}
 use Rattle.numerics.specs.Law.{mono-⊠, law-upper, times, power, zero-sum}
 use Rattle.numerics.specs.Exp.{LE, none, exp-above, exp-below, above-of-LE}
 use Rattle.numerics.specs.Tail.{rho, rho-mul, S-one}

@@ -1,21 +1,20 @@
 -- What `lnParts` gives of x = 2^k m: where the answer y is not negative, y is ln x within 2^-48 times a size that is 1 or at most ln x; where it is negative, -y is that of 1 / x.
 -- Assumes nothing.
-use mathlib.Core.Path.{_≡_, refl, sym, ap, subst}
+use mathlib.Core.Path.{_≡_, refl}
 use mathlib.Core.Logic.{_⊎_, inl, inr}
 use Prim.Native.Nat.{ℕ, _+_, _-_, _*_, _^_, _≤_, _<_}
-use native.Mathlib.Nat.{le-refl, le-trans, le-of-eq, le-of-lt, mul-pos, mul-le-mul-right, mul-le-mul-left, le-of-mul-le-mul-right, one-mul}
+use native.Mathlib.Nat.{le-refl, le-of-lt, mul-pos, mul-le-mul-right, mul-le-mul-left, le-of-mul-le-mul-right}
 use native.Mathlib.Omega.{arith}
 use mathlib.Core.Bool.{Bool, true, false, not}
 use lib.Dec.{T, leb, leb→le, nleb→lt, lit≤}
 use lib.Pow.{pow-pos}
-use lib.Ieee.{Float, binary64, add, neg}
+use lib.Ieee.{Float, binary64, add}
 use lib.Ieee.Positive.{num, den}
-use Rattle.numerics.specs.Frac.{Frac, _⊑_, _⊞_, _⊠_, nat, ⊑-refl, ⊑-trans}
-use Rattle.numerics.specs.Series.{S, Above, Below}
+use Rattle.numerics.specs.Frac.{Frac, _⊑_, _⊞_, nat, ⊑-refl, ⊑-trans}
+use Rattle.numerics.specs.Series.{Above, Below}
 use Rattle.numerics.specs.Law.{times}
 use Rattle.numerics.specs.Exp.{LE, none, inv, LE-arg, below-of-LE}
 use Rattle.numerics.specs.Round.{val}
-use Rattle.numerics.specs.Nonneg.{nonneg}
 use Rattle.elementary.specs.Ln.{lnSignificand, lnParts}
 use Rattle.elementary.specs.LnDistanceTwo.{ln2}
 use Rattle.elementary.specs.LnDistanceSignificand.{log-of, log-of-most, significand-rel}

@@ -1,24 +1,19 @@
 -- The polynomial of ln in binary64: `lnRatio` at a double two roundings from s is 25 roundings from 2 s + 2 s^3 / 3 + 2 s^5 / 5 + 2 s^7 / 7. Assumes nothing.
-use mathlib.Core.Path.{_≡_, refl, sym, ap, _∙_, subst}
+use mathlib.Core.Path.{_≡_, ap, _∙_}
 use mathlib.Core.Logic.{_⊎_, inl, inr}
-use Prim.Native.Nat.{ℕ, zero, suc, _+_, _-_, _*_, _/_, _%_, _^_, _≤_, _<_, zero-le}
-use native.Mathlib.Nat.{le-refl, le-trans, le-of-eq, lt-of-lt-of-le, mul-pos, mul-one, one-mul, zero-mul, mul-assoc, mul-le-mul, mul-le-mul-right, mul-le-mul-left, le-of-mul-le-mul-right, eq-zero-or-pos, sub-add-cancel, div-mul-le-self, lt-div-mul-add}
+use Prim.Native.Nat.{ℕ, zero, _+_, _-_, _*_, _/_, _^_, _≤_, _<_}
+use native.Mathlib.Nat.{le-refl, le-trans, le-of-eq, zero-mul, mul-le-mul, mul-le-mul-right, mul-le-mul-left}
 use native.Mathlib.Omega.{arith}
-use mathlib.Core.Bool.{Bool, true, false}
-use lib.IntN.{ℤ, pos, negsuc}
-use lib.Dec.{T, lit≤, lit<}
-use lib.Pow.{pow-pos}
-use lib.Ieee.{Float, nan, inf, fin, binary64, up, down, round, add, sub, mul, div, ofInt, ofBits}
-use lib.Ieee.Exact.{HasValue, round-exact}
-use lib.Ieee.Positive.{num, den, positive, den-pos, own-value, value→cross, positive-of-value, mul-at}
-use Rattle.numerics.specs.Frac.{Frac, _⊑_, _⊞_, _⊠_, nat, ⊑-refl, ⊑-trans, big, small, Under, Close, close-refl, close-same, close-weaken, close-trans, close-mul}
-use Rattle.numerics.specs.Round.{val, Rel, Normal, round-rel}
-use Rattle.numerics.specs.Rel.{less, over, num-pos, sub-is, add-is, div-is, Ample}
+use lib.Dec.{lit≤}
+use lib.Ieee.{Float, binary64, up, add, mul, ofBits}
+use Rattle.numerics.specs.Double.{two}
+use Rattle.numerics.specs.Frac.{Frac, _⊞_, _⊠_, nat, big, small, close-same}
+use Rattle.numerics.specs.Round.{Rel}
 use Rattle.numerics.specs.Coefs.{close-test, close-tested}
-use Rattle.numerics.specs.Nonneg.{nonneg, Rel0, rel0-of-rel, Fine, Broad, round-rel0, rel0-weaken, rel0-trans, rel0-mul, rel0-add}
+use Rattle.numerics.specs.Nonneg.{Rel0, rel0-of-rel, Broad, rel0-weaken, rel0-trans, rel0-mul, rel0-add}
 use Rattle.numerics.specs.Poly.{ev}
 use Rattle.numerics.specs.Ring.{Poly, con, _⊕_, _⊗_, equal, ring₂}
-use Rattle.elementary.specs.Ln.{lnRatio}
+use Rattle.elementary.specs.Ln.{twoThirds, twoFifths, twoSevenths, lnRatio}
 use Rattle.elementary.specs.LnDistanceStep.{log-part}
 
 infixl 6 _+'_
@@ -33,26 +28,14 @@ fifth = record { top = 2; bot = 5; good = lit≤ tt }
 abbrev seventh : Frac
 seventh = record { top = 2; bot = 7; good = lit≤ tt }
 
-abbrev pub c3 : Float
-c3 = ofBits binary64 0x3fe5555555555555
+third-rel : Rel 1 twoThirds third
+third-rel = unfold close-test ofBits small big in close-tested 1 twoThirds third tt
 
-abbrev pub c5 : Float
-c5 = ofBits binary64 0x3fd999999999999a
+fifth-rel : Rel 1 twoFifths fifth
+fifth-rel = unfold close-test ofBits small big in close-tested 1 twoFifths fifth tt
 
-abbrev pub c7 : Float
-c7 = ofBits binary64 0x3fd2492492492492
-
-abbrev pub two : Float
-two = ofBits binary64 0x4000000000000000
-
-c3-rel : Rel 1 c3 third
-c3-rel = unfold close-test ofBits small big in close-tested 1 c3 third tt
-
-c5-rel : Rel 1 c5 fifth
-c5-rel = unfold close-test ofBits small big in close-tested 1 c5 fifth tt
-
-c7-rel : Rel 1 c7 seventh
-c7-rel = unfold close-test ofBits small big in close-tested 1 c7 seventh tt
+seventh-rel : Rel 1 twoSevenths seventh
+seventh-rel = unfold close-test ofBits small big in close-tested 1 twoSevenths seventh tt
 
 two-rel : Rel 1 two (nat 2)
 two-rel = unfold close-test ofBits small big in close-tested 1 two (nat 2) tt
@@ -185,23 +168,23 @@ module _ (v : Float) (s : Frac) (r : Rel0 2 v s) (least : (s .top ≡ 0) ⊎ (s 
   unfolding q2
   m2 = mid-step 1 5 (le-refl 1) zz q3 (lit≤ tt) zz-most (m3 .few)
 
-  r5 : Rel0 8 (add binary64 c5 (mul binary64 (mul binary64 v v) c7)) q5
+  r5 : Rel0 8 (add binary64 twoFifths (mul binary64 (mul binary64 v v) twoSevenths)) q5
   unfolding q5
-  r5 = rel0-add 7 c5 (mul binary64 (mul binary64 v v) c7) fifth (zz ⊠ seventh) (rel0-weaken 1 7 c5 fifth (lit≤ tt) (rel0-of-rel 1 c5 fifth c5-rel))
-      (rel0-mul 5 1 (mul binary64 v v) c7 zz seventh z-rel (rel0-of-rel 1 c7 seventh c7-rel) (lit≤ tt) (broad-step 1 zz seventh (lit≤ tt) zz-least zz-most (record { some = lit≤ tt; few = lit≤ tt })))
+  r5 = rel0-add 7 twoFifths (mul binary64 (mul binary64 v v) twoSevenths) fifth (zz ⊠ seventh) (rel0-weaken 1 7 twoFifths fifth (lit≤ tt) (rel0-of-rel 1 twoFifths fifth fifth-rel))
+      (rel0-mul 5 1 (mul binary64 v v) twoSevenths zz seventh z-rel (rel0-of-rel 1 twoSevenths seventh seventh-rel) (lit≤ tt) (broad-step 1 zz seventh (lit≤ tt) zz-least zz-most (record { some = lit≤ tt; few = lit≤ tt })))
       (lit≤ tt) (mid-broad 3 (fifth ⊞ zz ⊠ seventh) (lit≤ tt) m5)
 
-  r3 : Rel0 15 (add binary64 c3 (mul binary64 (mul binary64 v v) (add binary64 c5 (mul binary64 (mul binary64 v v) c7)))) q3
+  r3 : Rel0 15 (add binary64 twoThirds (mul binary64 (mul binary64 v v) (add binary64 twoFifths (mul binary64 (mul binary64 v v) twoSevenths)))) q3
   unfolding q3
   r3 =
-      let w = add binary64 c5 (mul binary64 (mul binary64 v v) c7) in
-      rel0-add 14 c3 (mul binary64 (mul binary64 v v) w) third (zz ⊠ q5) (rel0-weaken 1 14 c3 third (lit≤ tt) (rel0-of-rel 1 c3 third c3-rel))
+      let w = add binary64 twoFifths (mul binary64 (mul binary64 v v) twoSevenths) in
+      rel0-add 14 twoThirds (mul binary64 (mul binary64 v v) w) third (zz ⊠ q5) (rel0-weaken 1 14 twoThirds third (lit≤ tt) (rel0-of-rel 1 twoThirds third third-rel))
       (rel0-mul 5 8 (mul binary64 v v) w zz q5 z-rel r5 (lit≤ tt) (broad-step 3 zz q5 (lit≤ tt) zz-least zz-most m5)) (lit≤ tt) (mid-broad 5 (third ⊞ zz ⊠ q5) (lit≤ tt) m3)
 
-  r2 : Rel0 22 (add binary64 two (mul binary64 (mul binary64 v v) (add binary64 c3 (mul binary64 (mul binary64 v v) (add binary64 c5 (mul binary64 (mul binary64 v v) c7)))))) q2
+  r2 : Rel0 22 (add binary64 two (mul binary64 (mul binary64 v v) (add binary64 twoThirds (mul binary64 (mul binary64 v v) (add binary64 twoFifths (mul binary64 (mul binary64 v v) twoSevenths)))))) q2
   unfolding q2
   r2 =
-      let w = add binary64 c3 (mul binary64 (mul binary64 v v) (add binary64 c5 (mul binary64 (mul binary64 v v) c7))) in
+      let w = add binary64 twoThirds (mul binary64 (mul binary64 v v) (add binary64 twoFifths (mul binary64 (mul binary64 v v) twoSevenths))) in
       rel0-add 21 two (mul binary64 (mul binary64 v v) w) (nat 2) (zz ⊠ q3) (rel0-weaken 1 21 two (nat 2) (lit≤ tt) (rel0-of-rel 1 two (nat 2) two-rel))
       (rel0-mul 5 15 (mul binary64 v v) w zz q3 z-rel r3 (lit≤ tt) (broad-step 5 zz q3 (lit≤ tt) zz-least zz-most m3)) (lit≤ tt) (mid-broad 7 (nat 2 ⊞ zz ⊠ q3) (lit≤ tt) m2)
 
@@ -209,7 +192,7 @@ module _ (v : Float) (s : Frac) (r : Rel0 2 v s) (least : (s .top ≡ 0) ⊎ (s 
   unfolding lnRatio q2 q3 q5 zz
   ratio-log =
       rel0-trans 25 0 (lnRatio v) (s ⊠ q2) (log-part s)
-      (rel0-mul 2 22 v (add binary64 two (mul binary64 (mul binary64 v v) (add binary64 c3 (mul binary64 (mul binary64 v v) (add binary64 c5 (mul binary64 (mul binary64 v v) c7)))))) s q2 r r2 (lit≤ tt) (broad-step 7 s q2 (lit≤ tt) (wide least) most m2))
+      (rel0-mul 2 22 v (add binary64 two (mul binary64 (mul binary64 v v) (add binary64 twoThirds (mul binary64 (mul binary64 v v) (add binary64 twoFifths (mul binary64 (mul binary64 v v) twoSevenths)))))) s q2 r r2 (lit≤ tt) (broad-step 7 s q2 (lit≤ tt) (wide least) most m2))
       (close-same (s ⊠ q2) (log-part s) (odd-same s))
     where
       wide : (s .top ≡ 0) ⊎ (s .bot ≤ s .top * 2 ^ 100) → (s .top ≡ 0) ⊎ (s .bot ≤ s .top * 2 ^ 200)

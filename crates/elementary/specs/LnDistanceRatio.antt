@@ -1,21 +1,21 @@
 -- s = (m - c) / (m + c) in binary64, for m = M / 2 ^ 52 and c = C / 2 ^ 52 with C ≤ M: two roundings from (M - C) / (M + C). Assumes nothing.
 use mathlib.Core.Path.{_≡_, refl, sym, ap, ap₂, _∙_, subst}
 use mathlib.Core.Logic.{_⊎_, inl, inr}
-use Prim.Native.Nat.{ℕ, zero, suc, _+_, _-_, _*_, _^_, _≤_, _<_}
-use native.Mathlib.Nat.{le-refl, le-trans, le-of-eq, lt-of-lt-of-le, lt-of-le-of-lt, mul-pos, mul-one, one-mul, mul-assoc, mul-comm, mul-sub, mul-le-mul-right, mul-le-mul-left, le-of-mul-le-mul-right, mul-lt-mul-of-pos-right, eq-zero-or-pos, sub-le, sub-add-cancel}
+use Prim.Native.Nat.{ℕ, _+_, _-_, _*_, _^_, _≤_, _<_}
+use native.Mathlib.Nat.{le-trans, le-of-eq, lt-of-lt-of-le, lt-of-le-of-lt, mul-pos, one-mul, mul-assoc, mul-comm, mul-sub, mul-le-mul-right, mul-le-mul-left, le-of-mul-le-mul-right, mul-lt-mul-of-pos-right, eq-zero-or-pos, sub-le}
 use native.Mathlib.Omega.{arith}
 use mathlib.Core.Bool.{Bool, true, false, cond}
 use lib.Dec.{T, eqb, eqb→eq, ltb→lt, lit≤}
 use lib.Pow.{pow-pos}
-use lib.Ieee.{Float, nan, inf, fin, Format, binary64, up, down, round, add, sub, mul, div}
+use lib.Ieee.{Float, nan, inf, fin, Format, binary64, up, down, round, add, sub, div}
 use lib.Ieee.Exact.{HasValue, round-exact}
 use lib.Ieee.Scale.{round-same}
 use lib.Ieee.Order.{transfer}
 use lib.Ieee.Positive.{num, den, positive, den-pos, value→cross, positive-of-value}
-use Rattle.numerics.specs.Frac.{Frac, _⊑_, _⊞_, _⊠_, Close, close-same, close-weaken, big, small}
-use Rattle.numerics.specs.Round.{val, Rel, Normal, round-rel}
-use Rattle.numerics.specs.Rel.{over, num-pos, sub-is, add-is, Ample}
-use Rattle.numerics.specs.Nonneg.{nonneg, Rel0, Fine, Broad, round-rel0, fine-of-close, rel0-trans, nonneg-value}
+use Rattle.numerics.specs.Frac.{Frac, Close, big, small}
+use Rattle.numerics.specs.Round.{val, Rel, round-rel}
+use Rattle.numerics.specs.Rel.{over, num-pos, sub-is, add-is}
+use Rattle.numerics.specs.Nonneg.{nonneg, Rel0, Broad, round-rel0, fine-of-close, rel0-trans, nonneg-value}
 use Rattle.elementary.specs.LnDistanceStep.{ratio-of}
 
 sub-mul : (x y q : ℕ) → (x - y) * q ≡ x * q - y * q

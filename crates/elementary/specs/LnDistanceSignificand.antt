@@ -1,19 +1,18 @@
 -- ln of a significand m = 1 + t / 2^52: the exact sum `log-of t` of the table's entry and the polynomial has m for its exponential to 3 roundings, is at most 0.7, and the double
 -- `lnSignificand t` is 26 roundings from it. Assumes nothing.
-use mathlib.Core.Path.{_≡_, refl, sym, ap, _∙_}
+use mathlib.Core.Path.{_≡_, sym, ap, _∙_}
 use mathlib.Core.List.{List, [], _∷_}
 use mathlib.Core.Logic.{_⊎_, inl, inr}
-use Prim.Native.Nat.{ℕ, zero, suc, _+_, _-_, _*_, _/_, _^_, _≤_, _<_, zero-le}
-use native.Mathlib.Nat.{le-refl, le-trans, le-of-eq, lt-of-lt-of-le, lt-of-le-of-lt, mul-pos, one-mul, mul-le-mul, mul-le-mul-right, mul-le-mul-left, le-of-mul-le-mul-right, eq-zero-or-pos, div-mul-le-self, lt-div-mul-add, div-lt-iff-lt-mul, le-add-right, pow-succ', pow-zero, sub-add-cancel}
+use Prim.Native.Nat.{ℕ, zero, _+_, _-_, _*_, _/_, _^_, _≤_, _<_, zero-le}
+use native.Mathlib.Nat.{le-trans, le-of-eq, lt-of-lt-of-le, lt-of-le-of-lt, one-mul, mul-le-mul, mul-le-mul-right, eq-zero-or-pos, div-mul-le-self, lt-div-mul-add, div-lt-iff-lt-mul, le-add-right, pow-succ', pow-zero, sub-add-cancel}
 use native.Mathlib.Omega.{arith}
-use lib.Dec.{T, lit≤}
+use lib.Dec.{lit≤}
 use lib.ListN.{length}
 use lib.Pow.{pow-pos}
-use lib.Ieee.{Float, binary64, add, sub, div, ofBits}
-use lib.Ieee.Positive.{num, den}
-use Rattle.numerics.specs.Frac.{Frac, _⊑_, _⊞_, _⊠_, nat, ⊑-refl, ⊑-trans, big, small, close-refl}
-use Rattle.numerics.specs.Series.{S, Above, Below, above-more, below-less}
-use Rattle.numerics.specs.Law.{mono-⊠, above-mul, below-mul}
+use lib.Ieee.{Float, binary64, add, sub, div}
+use Rattle.numerics.specs.Frac.{Frac, _⊑_, _⊞_, _⊠_, big, small, close-refl}
+use Rattle.numerics.specs.Series.{Above, Below, above-more, below-less}
+use Rattle.numerics.specs.Law.{above-mul, below-mul}
 use Rattle.numerics.specs.Round.{val}
 use Rattle.numerics.specs.Tail.{rho, rho-mul}
 use Rattle.numerics.specs.Nonneg.{Rel0, Broad, rel0-weaken, rel0-add}

@@ -1,13 +1,13 @@
 -- ln ((1 + s) / (1 - s)) for s up to 1/256, by the polynomial 2 * s + 2 * s ^ 3 / 3 + 2 * s ^ 5 / 5 + 2 * s ^ 7 / 7: e to that power is (1 + s) / (1 - s) to 2 roundings.
 -- The sum S 8 of the exponential at the polynomial is a polynomial in s, worked out by computing, and compared with (1 + s) / (1 - s) by `dominates`. Assumes nothing.
-use mathlib.Core.Path.{_≡_, refl, sym, ap, ap₂, _∙_}
+use mathlib.Core.Path.{_≡_, refl}
 use mathlib.Core.List.{List, [], _∷_}
 use Prim.Native.Nat.{ℕ, zero, suc, _+_, _*_, _^_, _≤_, _<_}
-use native.Mathlib.Nat.{le-refl, le-trans, le-of-eq, mul-pos, mul-le-mul-right, mul-le-mul-left, le-of-mul-le-mul-right, one-le-pow, lt-of-lt-of-le, le-add-left}
+use native.Mathlib.Nat.{mul-pos, mul-le-mul-right, mul-le-mul-left, le-of-mul-le-mul-right, lt-of-lt-of-le, le-add-left}
 use native.Mathlib.Omega.{arith}
 use lib.Dec.{T, lit≤}
-use Rattle.numerics.specs.Frac.{Frac, _⊑_, _⊞_, _⊠_, nat, ⊑-refl, ⊑-trans, big, small, small-pos, Under, Close, le-of-under}
-use Rattle.numerics.specs.Series.{sumTop, sumBot, S, U, Above, Below, above-by}
+use Rattle.numerics.specs.Frac.{Frac, _⊑_, _⊞_, _⊠_, nat, ⊑-refl, ⊑-trans, big, small, Under, le-of-under}
+use Rattle.numerics.specs.Series.{sumBot, S, U, Above, Below, above-by}
 use Rattle.numerics.specs.Law.{mono-⊠}
 use Rattle.numerics.specs.Horner.{fact, fact-pos, one-over, taylor, taylor-is}
 use Rattle.numerics.specs.Tail.{rho, under-rho, rho-mul, tail-under}

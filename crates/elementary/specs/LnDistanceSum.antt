@@ -1,27 +1,28 @@
 -- The last operations of ln on doubles: k as a double is exact, k ln2 is two roundings off, and the answer is one rounding from the exact sum of its operands, or from
 -- their difference where k is negative. Assumes nothing.
 use mathlib.Core.Path.{_≡_, refl, sym, ap, ap₂, _∙_, subst}
-use mathlib.Core.Bool.{Bool, true, false, _&&_}
+use mathlib.Core.Bool.{true, false, _&&_}
 use mathlib.Core.Logic.{_⊎_, inl, inr}
-use Prim.Native.Nat.{ℕ, zero, suc, _+_, _-_, _*_, _%_, _^_, _≤_, _<_, zero-le}
-use native.Mathlib.Nat.{le-refl, le-trans, le-of-eq, lt-of-lt-of-le, le-of-lt, mul-pos, mul-one, one-mul, mul-comm, mul-sub, mul-le-mul, mul-le-mul-right, mul-le-mul-left, eq-zero-or-pos, one-le-pow, sub-le, not-le-of-lt, zero-lt-suc, le-mul-of-pos-right}
+use Prim.Native.Nat.{ℕ, zero, suc, _+_, _-_, _*_, _%_, _^_, _≤_, _<_}
+use native.Mathlib.Nat.{le-refl, le-trans, le-of-eq, le-of-lt, mul-pos, mul-one, one-mul, mul-comm, mul-sub, mul-le-mul, mul-le-mul-right, mul-le-mul-left, eq-zero-or-pos, one-le-pow, zero-lt-suc}
 use native.Mathlib.Omega.{arith}
 use lib.Dec.{T, ltb, eqb, leb, eqb→eq, ltb→lt, lit≤}
 use lib.Pow.{pow-pos}
-use lib.IntN.{ℤ, pos, negsuc}
+use lib.IntN.{pos, negsuc}
 use lib.Ieee.{Float, nan, inf, fin, binary64, up, down, round, add, sub, mul, neg, ofInt, ofBits, fits}
 use lib.Ieee.Back.{round-whole}
 use lib.Ieee.Exact.{HasValue}
 use lib.Ieee.Fits.{and-l, and-r, up-pos, mul-fits, add-fits}
 use lib.Ieee.Scale.{round-same}
 use lib.Ieee.Positive.{num, den, positive, den-pos, value→cross, positive-of-value}
-use Rattle.numerics.specs.Frac.{Frac, _⊑_, _⊞_, _⊠_, nat, big, small, small-pos, Close, close-same, close-refl}
+use Rattle.numerics.specs.Frac.{Frac, _⊞_, _⊠_, nat, big, small, small-pos, Close, close-same, close-refl}
 use Rattle.numerics.specs.Law.{times}
-use Rattle.numerics.specs.Round.{val, Rel}
+use Rattle.numerics.specs.Round.{val}
 use Rattle.numerics.specs.Rel.{less, under-double, sub-is}
-use Rattle.numerics.specs.Nonneg.{nonneg, Rel0, Fine, Broad, round-rel0, fine-of-close, rel0-of-rel, rel0-mul, nonneg-value, nonneg-positive, add-is0}
+use Rattle.numerics.specs.Nonneg.{nonneg, Rel0, Fine, round-rel0, fine-of-close, rel0-of-rel, rel0-mul, nonneg-value, nonneg-positive, add-is0}
+use Rattle.elementary.specs.Ln as steps
 use Rattle.elementary.specs.Ln.{lnSignificand, lnParts}
-use Rattle.elementary.specs.LnDistanceTwo.{ln2, ln2-double, ln2-rel}
+use Rattle.elementary.specs.LnDistanceTwo.{ln2, ln2-rel}
 use Rattle.elementary.specs.LnDistanceSignificand.{log-of, log-of-bot, log-of-most, significand-rel, broad-den}
 use Rattle.elementary.specs.LnDistanceSigns.{mul-neg, add-over, add-under, sub-less}
 
@@ -88,7 +89,7 @@ module _ (e : ℕ) (e-some : 0 < e) (e-few : e ≤ 2110) where
 
 -- ---- n ln2
 abbrev pub shift : ℕ → Float
-shift n = mul binary64 (whole n) ln2-double
+shift n = mul binary64 (whole n) steps.ln2
 
 module _ (n : ℕ) (n-few : n ≤ 1074) where
   n-val : HasValue (whole n) false n 1
@@ -104,7 +105,7 @@ module _ (n : ℕ) (n-few : n ≤ 1074) where
   shift-top = le-trans (mul-le-mul-right (ln2 .top) n-few) (lit≤ tt)
 
   pub shift-rel : Rel0 2 (shift n) (nat n ⊠ ln2)
-  shift-rel = rel0-mul 0 1 (whole n) ln2-double (nat n) ln2 n-rel (rel0-of-rel 1 ln2-double ln2 ln2-rel) (lit≤ tt) (broad-den (nat n ⊠ ln2) (lit≤ tt) (le-trans shift-top (lit≤ tt)))
+  shift-rel = rel0-mul 0 1 (whole n) steps.ln2 (nat n) ln2 n-rel (rel0-of-rel 1 steps.ln2 ln2 ln2-rel) (lit≤ tt) (broad-den (nat n ⊠ ln2) (lit≤ tt) (le-trans shift-top (lit≤ tt)))
 
   -- the same of the fraction as `times` has it
   pub shift-close : Close 2 (val (shift n)) (times n ln2)
@@ -175,7 +176,7 @@ module _ (n t : ℕ) (n-few : n ≤ 1074) (t-few : t < 2 ^ 52) where
   a-fits = add-fits binary64 _ _
 
   b-short : den b ≤ 2 ^ 138
-  b-short = le-trans (rel-short 2 b (nat n ⊠ ln2) (lit≤ tt) (shift-rel n n-few) (2 ^ 84) (pow-pos 84) (mul-fits binary64 (whole n) ln2-double) (lit≤ tt)) (lit≤ tt)
+  b-short = le-trans (rel-short 2 b (nat n ⊠ ln2) (lit≤ tt) (shift-rel n n-few) (2 ^ 84) (pow-pos 84) (mul-fits binary64 (whole n) steps.ln2) (lit≤ tt)) (lit≤ tt)
 
   a-short : den a ≤ 2 ^ 554
   a-short = le-trans (rel-short 26 a (log-of t) (lit≤ tt) (significand-rel t t-few) (2 ^ 500) (pow-pos 500) a-fits (log-of-bot t t-few)) (lit≤ tt)
@@ -233,10 +234,10 @@ module _ (n t : ℕ) (n-few : n ≤ 1074) (t-few : t < 2 ^ 52) where
 -- ---- the answer
 pub parts-from : (e t : ℕ) → 0 < e → e ≤ 2110 → 1087 ≤ e → lnParts e t ≡ add binary64 (shift (e - 1087)) (lnSignificand t)
 unfolding lnParts
-parts-from e t p h l = ap (λ (v : Float). add binary64 (mul binary64 v ln2-double) (lnSignificand t)) (from-bias e p h l)
+parts-from e t p h l = ap (λ (v : Float). add binary64 (mul binary64 v steps.ln2) (lnSignificand t)) (from-bias e p h l)
 
 pub parts-below : (e t : ℕ) → 0 < e → e < 1087 → 1087 - e ≤ 1074 → lnParts e t ≡ add binary64 (neg (shift (1087 - e))) (lnSignificand t)
 unfolding lnParts
 parts-below e t p l n =
-    ap (λ (v : Float). add binary64 (mul binary64 v ln2-double) (lnSignificand t)) (below-bias e p (le-trans (le-of-lt l) (lit≤ tt)) l)
-    ∙ ap (λ (v : Float). add binary64 v (lnSignificand t)) (mul-neg binary64 (whole (1087 - e)) ln2-double (whole-sign (1087 - e) n) (nonneg-positive ln2-double (ln2-rel .pos)))
+    ap (λ (v : Float). add binary64 (mul binary64 v steps.ln2) (lnSignificand t)) (below-bias e p (le-trans (le-of-lt l) (lit≤ tt)) l)
+    ∙ ap (λ (v : Float). add binary64 v (lnSignificand t)) (mul-neg binary64 (whole (1087 - e)) steps.ln2 (whole-sign (1087 - e) n) (nonneg-positive steps.ln2 (ln2-rel .pos)))

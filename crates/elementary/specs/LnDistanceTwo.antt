@@ -1,17 +1,18 @@
 -- ln 2 to 84 binary places: e to it is 2 from below, to one part in 2^85, and its powers are those of 2 to one rounding, up to the exponent 1074 of the least subnormal.
 -- Assumes nothing.
-use mathlib.Core.Path.{_≡_, sym, _∙_}
-use Prim.Native.Nat.{ℕ, _*_, _-_, _^_, _≤_, _<_}
+use mathlib.Core.Path.{sym, _∙_}
+use Prim.Native.Nat.{ℕ, _-_, _^_, _≤_}
 use native.Mathlib.Nat.{le-of-eq, mul-one, one-le-pow}
-use lib.Dec.{T, lit≤}
+use lib.Dec.{lit≤}
 use lib.Pow.{pow-pos}
-use lib.Ieee.{Float, binary64, ofBits}
+use lib.Ieee.{ofBits}
 use Rattle.numerics.specs.Frac.{Frac, _⊑_, _⊠_, nat, big, small, big-pos}
 use Rattle.numerics.specs.Series.{sumTop, sumBot, Above, Below, above-by, below-by}
 use Rattle.numerics.specs.Law.{power}
 use Rattle.numerics.specs.Round.{Rel}
 use Rattle.numerics.specs.Coefs.{close-test, close-tested}
 use Rattle.numerics.specs.Tail.{rho, power-slack, power-two}
+use Rattle.elementary.specs.Ln as steps
 
 -- 1 / rho e
 abbrev pub rho⁻ : ℕ → Frac
@@ -21,11 +22,8 @@ abbrev pub ln2 : Frac
 ln2 = record { top = 13407416373952019861118523; bot = 2 ^ 84; good = lit≤ tt }
 
 -- the double that the steps use
-abbrev pub ln2-double : Float
-ln2-double = ofBits binary64 0x3fe6_2e42_fefa_39ef
-
-pub ln2-rel : Rel 1 ln2-double ln2
-ln2-rel = unfold close-test ofBits small big in close-tested 1 ln2-double ln2 tt
+pub ln2-rel : Rel 1 steps.ln2 ln2
+ln2-rel = unfold close-test ofBits small big in close-tested 1 steps.ln2 ln2 tt
 
 -- just below 2
 abbrev pub two⁻ : Frac

@@ -2,21 +2,20 @@
 -- `highest-bit`: a subnormal's digits moved up until the highest set bit is at place 52. Assumes nothing.
 use mathlib.Core.Path.{_≡_, refl, sym, ap, _∙_, subst}
 use mathlib.Core.Logic.{_⊎_, inl, inr}
-use mathlib.Core.Bool.{Bool, true, false, not, cond, _||_, _&&_, Bool·beq}
+use mathlib.Core.Bool.{Bool, true, false, not, cond, _&&_}
 use Prim.Native.Nat.{ℕ, zero, suc, _+_, _-_, _*_, _/_, _%_, _^_, _≤_, _<_}
-use native.Mathlib.Nat.{mul-one, one-mul, zero-mul, lt-of-not-le, lt-of-lt-of-le, lt-irrefl, le-trans, mul-le-mul-right, mul-lt-mul-of-pos-right, eq-zero-or-pos, zero-lt-suc, mul-pos}
+use native.Mathlib.Nat.{mul-one, zero-mul, lt-of-not-le, lt-of-lt-of-le, lt-irrefl, le-trans, mul-le-mul-right, mul-lt-mul-of-pos-right, eq-zero-or-pos, zero-lt-suc, mul-pos}
 use native.Mathlib.Omega.{arith}
 use borrow.Author.Tests.{leb-false, ne-eqb, lt-leb, lt-ltb}
 use lib.Count.{leadingZeros, leading-top}
 use lib.Dec.{T, leb, eqb, eqb→eq, ltb→lt}
 use lib.Pow.{pow-pos, pow-mono, pow-add}
-use lib.IntN.{pos}
 use lib.Ieee.{Float, nan, inf, fin, binary64, up, down, odd, ofFields, ofBits, toBits, fits, isNan, le, lt, eq}
 use lib.Ieee.Bits.{ofBits-toBits}
 use lib.Ieee.Fits.{and-i, and-l, up-pos}
 use lib.Ieee.Exact.{HasValue, odd-sign}
 use lib.Ieee.Positive.{positive}
-use Rattle.numerics.specs.Double.{bits, +0}
+use Rattle.numerics.specs.Double.{+0}
 
 -- ---- the fields
 negative-fields : (E t : ℕ) → T (positive (ofFields binary64 true E t)) → ⊥

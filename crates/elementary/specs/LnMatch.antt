@@ -1,5 +1,5 @@
 -- What a `match` on a number says: of a table, that the arm for j gives its entry j; of the last arm, that the number is none of those before.
-use mathlib.Core.Path.{_≡_, refl, sym, ap, _∙_}
+use mathlib.Core.Path.{_≡_, sym, ap, _∙_}
 use Prim.Native.Nat.{ℕ, zero, suc, _≤_, _<_}
 use native.Mathlib.Nat.{le-antisymm, le-of-suc-le-suc}
 use lib.Arith.{lt-of-le-ne}
