@@ -18,17 +18,25 @@ abbrev pub significand : ℕ → Float
 significand t = bits (t + 0x3ff0_0000_0000_0000)
 
 -- the doubles nearest ln 2, 2/3, 2/5 and 2/7
+-- 0.6931471805599453
 abbrev pub ln2 : Float
 ln2 = bits 0x3fe6_2e42_fefa_39ef
 
+-- 0.6666666666666666
 abbrev pub twoThirds : Float
 twoThirds = bits 0x3fe5_5555_5555_5555
 
+-- 0.4
 abbrev pub twoFifths : Float
 twoFifths = bits 0x3fd9_9999_9999_999a
 
+-- 0.2857142857142857
 abbrev pub twoSevenths : Float
 twoSevenths = bits 0x3fd2_4924_9249_2492
+
+-- 1087.0
+abbrev pub bias : Float
+bias = bits 0x4090_fc00_0000_0000
 
 -- s (2 + z (2/3 + z (2/5 + z 2/7))), z = s s: the terms of ln ((1 + s) / (1 - s)) up to s^7
 unfoldable pub lnRatio : Float → Float
@@ -44,9 +52,9 @@ lnSignificand t =
     let c = significand (i * 2 ^ 45) in
     logNode i ⊕ lnRatio ((m ⊖ c) ⊘ (m ⊕ c))
 
--- ln (2^k m) = k ln 2 + ln m; e is k + 1087, so that it is a natural number for the least subnormal too
+-- ln (2^k m) = k ln 2 + ln m; e is k + 1087, which is a natural number for the least subnormal too
 unfoldable pub lnParts : ℕ → ℕ → Float
-lnParts e t = (ofInt binary64 (pos e) ⊖ bits 0x4090_fc00_0000_0000) ⊗ ln2 ⊕ lnSignificand t
+lnParts e t = (ofInt binary64 (pos e) ⊖ bias) ⊗ ln2 ⊕ lnSignificand t
 
 -- from the bit pattern b of a positive finite double; "a subnormal is first scaled by the place of its highest set bit"
 unfoldable pub lnPattern : ℕ → Float

@@ -21,7 +21,7 @@ use Rattle.numerics.specs.Round.{val}
 use Rattle.numerics.specs.Rel.{less, under-double, sub-is}
 use Rattle.numerics.specs.Nonneg.{nonneg, Rel0, Fine, round-rel0, fine-of-close, rel0-of-rel, rel0-mul, nonneg-value, nonneg-positive, add-is0}
 use Rattle.elementary.specs.Ln as steps
-use Rattle.elementary.specs.Ln.{lnSignificand, lnParts}
+use Rattle.elementary.specs.Ln.{bias, lnSignificand, lnParts}
 use Rattle.elementary.specs.LnDistanceTwo.{ln2, ln2-rel}
 use Rattle.elementary.specs.LnDistanceSignificand.{log-of, log-of-bot, log-of-most, significand-rel, broad-den}
 use Rattle.elementary.specs.LnDistanceSigns.{mul-neg, add-over, add-under, sub-less}
@@ -29,9 +29,6 @@ use Rattle.elementary.specs.LnDistanceSigns.{mul-neg, add-over, add-unde
 -- ---- k = e - 1087 as a double
 abbrev pub whole : ℕ → Float
 whole n = round binary64 false n 1
-
-abbrev bias : Float
-bias = ofBits binary64 0x4090_fc00_0000_0000
 
 bias-val : HasValue bias false 1087 1
 unfolding ofBits
