@@ -2,7 +2,6 @@
 pub mod LnTable
 pub mod Ln
 pub mod LnFields
-pub mod LnLaws
 pub mod LnMatch
 pub mod LnPatterns
 pub mod LnDistanceTwo
@@ -17,3 +16,4 @@ pub mod LnDistanceSigns
 pub mod LnDistanceSum
 pub mod LnDistanceParts
 pub mod LnDistanceDouble
+pub mod LnLaws
