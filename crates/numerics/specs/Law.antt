@@ -14,22 +14,22 @@ unfoldable pub rise : ℕ → ℕ → ℕ → ℕ
 rise d zero i = 1
 rise d (suc j) i = d * suc i * rise d j (suc i)
 
-term : ℕ → ℕ → ℕ → ℕ → ℕ
+unfoldable pub term : ℕ → ℕ → ℕ → ℕ → ℕ
 term d N a i = a ^ i * rise d (N - i) i
 
-one-more : (N i : ℕ) → i < N → N - i ≡ suc (N - suc i)
+pub one-more : (N i : ℕ) → i < N → N - i ≡ suc (N - suc i)
 one-more N i h = omega arith
 
-rise-pos : (d j i : ℕ) → 0 < d → 0 < rise d j i
+pub rise-pos : (d j i : ℕ) → 0 < d → 0 < rise d j i
 unfolding rise
 rise-pos d zero i P = le-refl 1
 rise-pos d (suc j) i P = mul-pos (mul-pos P (zero-lt-suc i)) (rise-pos d j (suc i) P)
 
-term-rule : (d N a i : ℕ) → i < N → d * (suc i * term d N a (suc i)) ≡ a * term d N a i
+pub term-rule : (d N a i : ℕ) → i < N → d * (suc i * term d N a (suc i)) ≡ a * term d N a i
 unfolding term rise
 term-rule d N a i h = rw (one-more N i h, pow-suc a i) (omega arith)
 
-rise-split : (d m n : ℕ) → rise d (m + n) 0 ≡ sumBot n d * rise d m n
+pub rise-split : (d m n : ℕ) → rise d (m + n) 0 ≡ sumBot n d * rise d m n
 unfolding rise sumBot
 rise-split d m zero = rw add-zero (sym (one-mul (rise d m 0)))
 rise-split d m (suc n) =
@@ -37,7 +37,7 @@ rise-split d m (suc n) =
     let e : m + suc n ≡ suc m + n = omega arith in
     rw e (omega (arith, h))
 
-sum-terms : (d N a n : ℕ) → n ≤ N → sum n (term d N a) ≡ sumTop n a d * rise d (N - n) n
+pub sum-terms : (d N a n : ℕ) → n ≤ N → sum n (term d N a) ≡ sumTop n a d * rise d (N - n) n
 unfolding sum term sumTop rise
 sum-terms d N a zero h = rw pow-zero
 sum-terms d N a (suc n) h =
@@ -75,7 +75,7 @@ sum-conv d N a b n P h =
     sum-cong n (λ k. conv k (term d N a) (term d N b)) (λ k. rise d N 0 * term d N (a + b) k) (λ i g. conv-terms d N a b i P (le-trans g h))
     ∙ sum-scale n (rise d N 0) (term d N (a + b))
 
-whole : (d a n : ℕ) → sum n (term d n a) ≡ sumTop n a d
+pub whole : (d a n : ℕ) → sum n (term d n a) ≡ sumTop n a d
 unfolding rise
 whole d a n = sum-terms d n a n (le-refl n) ∙ ap (λ (z : ℕ). sumTop n a d * rise d z n) (sub-self n) ∙ mul-one (sumTop n a d)
 

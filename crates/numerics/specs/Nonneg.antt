@@ -55,7 +55,7 @@ zero-grid c C =
     ∙ ap (λ (z : ℕ). z * 2 ^ drop 53 0 c) (closest-zero (c * 2 ^ drop 53 0 c) (mul-pos C (pow-pos (drop 53 0 c))))
     ∙ zero-mul (2 ^ drop 53 0 c)
 
-zero-val : (c : ℕ) → 0 < c → HasValue (round binary64 false 0 c) false 0 (2 ^ 1074)
+pub zero-val : (c : ℕ) → 0 < c → HasValue (round binary64 false 0 c) false 0 (2 ^ 1074)
 zero-val c C = subst (λ (z : ℕ). HasValue (round binary64 false 0 c) false z (2 ^ 1074)) (zero-grid c C) (round-val binary64 0 c (subst (λ (z : ℕ). z < overflow binary64) (sym (zero-grid c C)) (pow-pos 2098)))
 
 zero-rel : (c : ℕ) (C : 0 < c) (e : ℕ) → Rel0 e (round binary64 false 0 c) (record { top = 0; bot = c; good = C })

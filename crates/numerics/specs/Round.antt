@@ -126,10 +126,10 @@ floor-up : (a c Q M : ℕ) → c ≤ a * M → Q * c ≤ a * (Q * M)
 floor-up a c Q M h = omega (arith, mul-le-mul-left Q h)
 
 -- ---- rounding to binary64
-near-of : (a c : ℕ) → 0 < c → c ≤ a * 2 ^ 1022 → Near binary64 a c
+pub near-of : (a c : ℕ) → 0 < c → c ≤ a * 2 ^ 1022 → Near binary64 a c
 near-of a c C h = grid-near binary64 a c (lit≤ tt) C (normal-of-fraction binary64 a c C (floor-up a c (2 ^ 52) (2 ^ 1022) h))
 
-inside : (a c : ℕ) → 0 < c → c ≤ a * 2 ^ 1022 → a ≤ c * 2 ^ 1023 → grid binary64 a c < overflow binary64
+pub inside : (a c : ℕ) → 0 < c → c ≤ a * 2 ^ 1022 → a ≤ c * 2 ^ 1023 → grid binary64 a c < overflow binary64
 inside a c C h k = fits-up (grid binary64 a c) c a (2 ^ 1074) (2 ^ 52) (2 ^ 1023) C (pow-pos 1074) (pow-pos 1023) (pow-pos 52) (near-of a c C h .above) k
 
 -- the two bounds with 2 ^ 53 written as suc small

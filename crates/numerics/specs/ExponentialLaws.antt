@@ -1,0 +1,322 @@
+-- Laws of `AboveExp` and `BelowExp` themselves, for x and y of either sign:
+--   below-above-exp (ExpBounds), squeeze, exp-zero (ExpBoundLaws)   nothing below exceeds anything above; the two come arbitrarily close; e ^ 0 = 1
+--   exp-above-pos                    what lies above e ^ x is not 0
+--   exp-above-more, exp-below-less   a bound may be loosened
+--   exp-above-sum, exp-below-sum     bounds of e ^ x and e ^ y multiply to bounds of e ^ (x + y)
+--   exp-above-arg, exp-below-arg     monotony
+--   exp-above-times, exp-below-times   powers of a bound are bounds of e ^ (n x)
+-- They rest on this: where x is not 0 there is a smaller q below each q above e ^ x (`room-above`), and a larger above each q below it (`room-below`), since with two terms more the sum
+-- with the tail's bound falls and the sum less it grows. Assumes nothing.
+use mathlib.Core.Path.{_≡_, refl, ap}
+use mathlib.Core.Logic.{_⊎_, inl, inr}
+use Prim.Native.Nat.{ℕ, zero, suc, _+_, _-_, _*_, _^_, _≤_, _<_}
+use native.Mathlib.Nat.{le-trans, le-of-eq, lt-of-lt-of-le, mul-pos, mul-le-mul-right, mul-le-mul-left, le-of-mul-le-mul-right, mul-lt-mul-of-pos-right, pow-suc, one-le-pow, add-sub-of-le, eq-zero-or-pos}
+use native.Mathlib.Omega.{arith}
+use Rattle.numerics.specs.Frac.{Frac, _⊑_, _⊏_, _⊞_, _⊠_, nat, ⊑-refl, ⊑-trans, add-mono}
+use Rattle.numerics.specs.Series.{sumTop, sumBot, sumBot-pos, S, S-arg}
+use Rattle.numerics.specs.Law.{mono-⊠, law-upper, power}
+use Rattle.numerics.specs.Alternating.{both-powers}
+use Rattle.numerics.specs.Exponential.{Signed, size, powers, sums, gain, loss, tail, Enough, AboveExp, BelowExp}
+use Rattle.numerics.specs.ExpBounds.{positives, negatives, AtMost, AtLeast, at-most, at-least, least-most, below-above-exp, by-sign, powers-up, powers-down, size-up, size-down}
+use Rattle.numerics.specs.ExpBoundLaws.{G, L, t, on, above-plain, below-plain, split, monus, above-of-most, below-of-least, least-some, exp-zero, Low, most-arg, least-arg, sum-of, most-sum, least-sum, times-of, next}
+
+-- ---- a power's two parts differ by |x| ^ k
+powers-near : (k p m : ℕ) → (powers k p m .0 ≤ powers k p m .1 + (p - m + (m - p)) ^ k) × (powers k p m .1 ≤ powers k p m .0 + (p - m + (m - p)) ^ k)
+powers-near k = by-sign (λ p m. (powers k p m .0 ≤ powers k p m .1 + (p - m + (m - p)) ^ k) × (powers k p m .1 ≤ powers k p m .0 + (p - m + (m - p)) ^ k)) upward downward
+  where
+    upward : (m d : ℕ) → (powers k (m + d) m .0 ≤ powers k (m + d) m .1 + (m + d - m + (m - (m + d))) ^ k) × (powers k (m + d) m .1 ≤ powers k (m + d) m .0 + (m + d - m + (m - (m + d))) ^ k)
+    upward m d = let e = powers-up k m d in rw (size-up m d) (omega arith, omega arith)
+
+    downward : (p d : ℕ) → (powers k p (p + d) .0 ≤ powers k p (p + d) .1 + (p - (p + d) + (p + d - p)) ^ k) × (powers k p (p + d) .1 ≤ powers k p (p + d) .0 + (p - (p + d) + (p + d - p)) ^ k)
+    downward p d = let e = powers-down k p d in let f = both-powers d k in rw (size-down p d) (omega arith, omega arith)
+
+-- ---- one term more
+-- the sum and what it loses over the next denominator
+next-G : (n : ℕ) (x : Signed) → G (suc n) x ≡ (G n x + powers (suc n) (x .plus) (x .minus) .0) * (x .bot * suc (suc n))
+unfolding sums
+next-G n x = refl
+
+next-L : (n : ℕ) (x : Signed) → L (suc n) x ≡ (L n x + powers (suc n) (x .plus) (x .minus) .1) * (x .bot * suc (suc n))
+unfolding sums
+next-L n x = refl
+
+next-D : (n : ℕ) (x : Signed) → sumBot (suc (suc n)) (x .bot) ≡ sumBot (suc n) (x .bot) * (x .bot * suc (suc n))
+unfolding sumBot
+next-D n x = refl
+
+-- the tail's bound falls by more than the term that is added; by `w` more where n + 2 is over 2 |x| by w
+fall : (P M s s' k w : ℕ) → P ≤ M + s → s' * 2 + w * s ≤ k * s → P * k + 2 * s' + w * s ≤ 2 * s * k + M * k
+fall P M s s' k w h l = omega (arith, mul-le-mul-right k h, l)
+
+tail-falls : (n : ℕ) (x : Signed) (w : ℕ) → 2 * size x .top + w ≤ x .bot * suc (suc n) → size x .top ^ suc (suc n) * 2 + w * size x .top ^ suc n ≤ x .bot * suc (suc n) * size x .top ^ suc n
+tail-falls n x w h = rw (pow-suc (size x .top) (suc n)) (turn (size x .top) (size x .top ^ suc n) w (x .bot * suc (suc n)) h)
+  where
+    turn : (a s w k : ℕ) → 2 * a + w ≤ k → s * a * 2 + w * s ≤ k * s
+    turn a s w k h = omega (arith, mul-le-mul-right s h)
+
+-- an order G + t ≤ Q + L over D, one term later, with w |x| ^ (n + 1) to spare
+later-above : (n : ℕ) (x : Signed) (q : Frac) (w : ℕ) → 2 * size x .top + w ≤ x .bot * suc (suc n) → (G n x + t n x) * q .bot ≤ q .top * sumBot (suc n) (x .bot) + L n x * q .bot
+    → (G (suc n) x + t (suc n) x) * q .bot + w * size x .top ^ suc n * q .bot ≤ q .top * sumBot (suc (suc n)) (x .bot) + L (suc n) x * q .bot
+later-above n x q w e h =
+    rw (next-G n x, next-L n x, next-D n x)
+    (turn (G n x) (L n x) (powers (suc n) (x .plus) (x .minus) .0) (powers (suc n) (x .plus) (x .minus) .1) (size x .top ^ suc n) (size x .top ^ suc (suc n)) (x .bot * suc (suc n)) w (q .top) (q .bot) (sumBot (suc n) (x .bot)) h
+    (fall (powers (suc n) (x .plus) (x .minus) .0) (powers (suc n) (x .plus) (x .minus) .1) (size x .top ^ suc n) (size x .top ^ suc (suc n)) (x .bot * suc (suc n)) w (powers-near (suc n) (x .plus) (x .minus) .0) (tail-falls n x w e)))
+  where
+    turn : (g l P M s s' k w qt qb D : ℕ) → (g + 2 * s) * qb ≤ qt * D + l * qb → P * k + 2 * s' + w * s ≤ 2 * s * k + M * k
+        → ((g + P) * k + 2 * s') * qb + w * s * qb ≤ qt * (D * k) + (l + M) * k * qb
+    turn g l P M s s' k w qt qb D h f = omega (arith, mul-le-mul-right k h, mul-le-mul-right qb f)
+
+later-below : (n : ℕ) (x : Signed) (q : Frac) (w : ℕ) → 2 * size x .top + w ≤ x .bot * suc (suc n) → q .top * sumBot (suc n) (x .bot) + (L n x + t n x) * q .bot ≤ G n x * q .bot
+    → q .top * sumBot (suc (suc n)) (x .bot) + (L (suc n) x + t (suc n) x) * q .bot + w * size x .top ^ suc n * q .bot ≤ G (suc n) x * q .bot
+later-below n x q w e h =
+    rw (next-G n x, next-L n x, next-D n x)
+    (turn (G n x) (L n x) (powers (suc n) (x .plus) (x .minus) .0) (powers (suc n) (x .plus) (x .minus) .1) (size x .top ^ suc n) (size x .top ^ suc (suc n)) (x .bot * suc (suc n)) w (q .top) (q .bot) (sumBot (suc n) (x .bot)) h
+    (fall (powers (suc n) (x .plus) (x .minus) .1) (powers (suc n) (x .plus) (x .minus) .0) (size x .top ^ suc n) (size x .top ^ suc (suc n)) (x .bot * suc (suc n)) w (powers-near (suc n) (x .plus) (x .minus) .1) (tail-falls n x w e)))
+  where
+    turn : (g l P M s s' k w qt qb D : ℕ) → qt * D + (l + 2 * s) * qb ≤ g * qb → M * k + 2 * s' + w * s ≤ 2 * s * k + P * k
+        → qt * (D * k) + ((l + M) * k + 2 * s') * qb + w * s * qb ≤ (g + P) * k * qb
+    turn g l P M s s' k w qt qb D h f = omega (arith, mul-le-mul-right k h, mul-le-mul-right qb f)
+
+-- ---- back from the fractions
+plain-above : (n : ℕ) (x : Signed) (q : Frac) → gain n x ⊞ tail n x ⊑ q ⊞ loss n x → (G n x + t n x) * q .bot ≤ q .top * sumBot (suc n) (x .bot) + L n x * q .bot
+unfolding sumBot
+plain-above n x q h = thin (sums n (x .plus) (x .minus) (x .bot) .0) (sums n (x .plus) (x .minus) (x .bot) .1) (sumBot n (x .bot)) (x .bot * suc n) (t n x) (q .top) (q .bot) (sumBot-pos n (x .bot) (x .good)) h
+  where
+    thin : (g l B k t qt qb : ℕ) → 0 < B → (g * (B * k) + t * B) * (qb * B) ≤ (qt * B + l * qb) * (B * (B * k)) → (g * k + t) * qb ≤ qt * (B * k) + l * k * qb
+    thin g l B k t qt qb P h = le-of-mul-le-mul-right {k = B * B} (omega (arith, h)) (mul-pos P P)
+
+plain-below : (n : ℕ) (x : Signed) (q : Frac) → q ⊞ loss n x ⊞ tail n x ⊑ gain n x → q .top * sumBot (suc n) (x .bot) + (L n x + t n x) * q .bot ≤ G n x * q .bot
+unfolding sumBot
+plain-below n x q h = thin (sums n (x .plus) (x .minus) (x .bot) .0) (sums n (x .plus) (x .minus) (x .bot) .1) (sumBot n (x .bot)) (x .bot * suc n) (t n x) (q .top) (q .bot) (sumBot-pos n (x .bot) (x .good)) h
+  where
+    thin : (g l B k t qt qb : ℕ) → 0 < B → ((qt * B + l * qb) * (B * k) + t * (qb * B)) * B ≤ g * (qb * B * (B * k)) → qt * (B * k) + (l * k + t) * qb ≤ g * k * qb
+    thin g l B k t qt qb P h = le-of-mul-le-mul-right {k = B * B} (omega (arith, h)) (mul-pos P P)
+
+-- ---- what lies above is not 0
+pub exp-above-pos : (x : Signed) (q : Frac) → AboveExp x q → 0 < q .top
+exp-above-pos x q h =
+    let f = least-some x in
+    some (f .0) q (f .1 .0) (least-most x (f .0) q (f .1 .1) (at-most x q h))
+  where
+    some : (f q : Frac) → 0 < f .top → f ⊑ q → 0 < q .top
+    some f q P h = go (eq-zero-or-pos (q .top))
+      where
+        go : (q .top ≡ 0) ⊎ (0 < q .top) → 0 < q .top
+        go (inr p) = p
+        go (inl z) = absurd (none (f .top * q .bot) (f .bot) (mul-pos P (q .good)) (rw z at h))
+          where
+            none : (a b : ℕ) → 0 < a → a ≤ 0 * b → ⊥
+            none a b p h = omega arith
+
+pub exp-above-more : (x : Signed) (p q : Frac) → p ⊑ q → AboveExp x p → AboveExp x q
+exp-above-more x p q h (n, k) = (n, (k .0, ⊑-trans (gain n x ⊞ tail n x) (p ⊞ loss n x) (q ⊞ loss n x) (k .1) (add-mono p q (loss n x) (loss n x) h (⊑-refl (loss n x)))))
+
+pub exp-below-less : (x : Signed) (p q : Frac) → q ⊑ p → BelowExp x p → BelowExp x q
+exp-below-less x p q h (n, k) = (n, (k .0, ⊑-trans (q ⊞ loss n x ⊞ tail n x) (p ⊞ loss n x ⊞ tail n x) (gain n x) (add-mono (q ⊞ loss n x) (p ⊞ loss n x) (tail n x) (tail n x) (add-mono q p (loss n x) (loss n x) h (⊑-refl (loss n x))) (⊑-refl (tail n x))) (k .1)))
+
+-- ---- two terms more leave room
+enough-next : (n : ℕ) (x : Signed) → Enough n x → 2 * size x .top + 1 ≤ x .bot * suc (suc (suc n))
+enough-next n x e = go (size x .top) (x .bot) (x .good) e
+  where
+    go : (s b : ℕ) → 0 < b → 2 * s ≤ b * suc (suc n) → 2 * s + 1 ≤ b * suc (suc (suc n))
+    go s b B h = omega (arith, h, B)
+
+enough-later : (n : ℕ) (x : Signed) → Enough n x → Enough (suc (suc n)) x
+enough-later n x e = le-trans e (mul-le-mul-left (x .bot) (omega arith))
+
+pub room-above : (x : Signed) (q : Frac) → 0 < size x .top → AboveExp x q → (p : Frac) × ((p ⊏ q) × AtMost x p)
+room-above x q s a =
+    let n = a .0 in
+    let e = a .1 .0 in
+    let one = later-above n x q 0 (le-trans (le-of-eq (native.Mathlib.Nat.add-zero (2 * size x .top))) e) (plain-above n x q (a .1 .1)) in
+    let two = later-above (suc n) x q 1 (enough-next n x e) (le-trans (first ((G (suc n) x + t (suc n) x) * q .bot) (size x .top ^ suc n) (q .bot)) one) in
+    let m = suc (suc n) in
+    let D = sumBot (suc m) (x .bot) in
+    let r = G m x + t m x - L m x in
+    let f : Enough m x = enough-later n x e in
+    (on m x r, (strict (G m x + t m x) (L m x) (q .top) (q .bot) D (size x .top ^ suc (suc n)) (one-le-pow (suc (suc n)) (size x .top) s) (q .good) (mul-pos (exp-above-pos x q a) (sumBot-pos (suc m) (x .bot) (x .good))) two, at-most x (on m x r) (m, (f, above-plain m x (on m x r) (monus (G m x + t m x) (L m x) D)))))
+  where
+    first : (a s b : ℕ) → a ≤ a + 0 * s * b
+    first a s b = omega arith
+
+    strict : (a l qt qb D s : ℕ) → 0 < s → 0 < qb → 0 < qt * D → a * qb + 1 * s * qb ≤ qt * D + l * qb → (a - l) * qb < qt * D
+    strict a l qt qb D s S B P h =
+        split l a ((a - l) * qb < qt * D) (λ k. omega (arith, h, mul-pos S B, ap (λ (z : ℕ). z * qb) (add-sub-of-le k)))
+        (λ k. rw (none a l k) (omega arith))
+      where
+        none : (a l : ℕ) → a < l → a - l ≡ 0
+        none a l k = omega arith
+
+pub room-below : (x : Signed) (q : Frac) → 0 < size x .top → BelowExp x q → (p : Frac) × ((q ⊏ p) × AtLeast x p)
+room-below x q s a =
+    let n = a .0 in
+    let e = a .1 .0 in
+    let one = later-below n x q 0 (le-trans (le-of-eq (native.Mathlib.Nat.add-zero (2 * size x .top))) e) (plain-below n x q (a .1 .1)) in
+    let two = later-below (suc n) x q 1 (enough-next n x e) (le-trans (first (q .top * sumBot (suc (suc n)) (x .bot) + (L (suc n) x + t (suc n) x) * q .bot) (size x .top ^ suc n) (q .bot)) one) in
+    let m = suc (suc n) in
+    let D = sumBot (suc m) (x .bot) in
+    let r = G m x - (L m x + t m x) in
+    let c : L m x + t m x ≤ G m x = le-of-mul-le-mul-right {k = q .bot} (le-trans (part (q .top * D) ((L m x + t m x) * q .bot) (1 * size x .top ^ suc (suc n) * q .bot)) two) (q .good) in
+    (on m x r, (strict (G m x) (L m x + t m x) (q .top) (q .bot) D (size x .top ^ suc (suc n)) (one-le-pow (suc (suc n)) (size x .top) s) (q .good) c two, at-least x (on m x r) (m, (enough-later n x e, below-plain m x (on m x r) (whole (G m x) (L m x + t m x) D c)))))
+  where
+    first : (a s b : ℕ) → a ≤ a + 0 * s * b
+    first a s b = omega arith
+
+    part : (a b c : ℕ) → b ≤ a + b + c
+    part a b c = omega arith
+
+    whole : (g a D : ℕ) → a ≤ g → (g - a) * D + a * D ≤ g * D
+    whole g a D h = omega (arith, ap (λ (z : ℕ). z * D) (add-sub-of-le h))
+
+    strict : (g a qt qb D s : ℕ) → 0 < s → 0 < qb → a ≤ g → qt * D + a * qb + 1 * s * qb ≤ g * qb → qt * D < (g - a) * qb
+    strict g a qt qb D s S B k h = omega (arith, h, mul-pos S B, ap (λ (z : ℕ). z * qb) (add-sub-of-le k))
+
+-- ---- x = 0
+pub zero-of : (x : Signed) → size x .top ≡ 0 → x .plus ≡ x .minus
+zero-of x z = go (x .plus) (x .minus) z
+  where
+    go : (p m : ℕ) → p - m + (m - p) ≡ 0 → p ≡ m
+    go p m z = omega arith
+
+pub one-below : (x : Signed) (q : Frac) → size x .top ≡ 0 → AboveExp x q → nat 1 ⊑ q
+one-below x q z a = below-above-exp x (nat 1) q (exp-zero x (zero-of x z) .1) a
+
+pub one-above : (x : Signed) (q : Frac) → size x .top ≡ 0 → BelowExp x q → q ⊑ nat 1
+one-above x q z a = below-above-exp x q (nat 1) a (exp-zero x (zero-of x z) .0)
+
+-- ---- e ^ (x + y)
+times-less : (p p' q : Frac) → 0 < q .top → p ⊏ p' → p ⊠ q ⊏ p' ⊠ q
+times-less p p' q Q h = turn (p .top) (p .bot) (p' .top) (p' .bot) (q .top) (q .bot) (mul-lt-mul-of-pos-right h (mul-pos Q (q .good)))
+  where
+    turn : (a b c d e f : ℕ) → a * d * (e * f) < c * b * (e * f) → a * e * (d * f) < c * e * (b * f)
+    turn a b c d e f h = omega (arith, h)
+
+swap-less : (p p' q : Frac) → p ⊠ q ⊏ p' ⊠ q → q ⊠ p ⊏ q ⊠ p'
+swap-less p p' q h = omega (arith, h)
+
+flat-sum : (x y : Signed) → size x .top ≡ 0 → size y .top ≡ 0 → sum-of x y .plus ≡ sum-of x y .minus
+flat-sum x y z w = let e = zero-of x z in let f = zero-of y w in omega (arith, ap (λ (k : ℕ). k * y .bot) e, ap (λ (k : ℕ). k * x .bot) f)
+
+pub exp-above-sum : (x y : Signed) (p q : Frac) → AboveExp x p → AboveExp y q → AboveExp (sum-of x y) (p ⊠ q)
+exp-above-sum x y p q a b = go (eq-zero-or-pos (size x .top)) (eq-zero-or-pos (size y .top))
+  where
+    go : (size x .top ≡ 0) ⊎ (0 < size x .top) → (size y .top ≡ 0) ⊎ (0 < size y .top) → AboveExp (sum-of x y) (p ⊠ q)
+    go (inr s) k =
+        let r = room-above x p s a in
+        above-of-most (sum-of x y) (r .0 ⊠ q) (p ⊠ q) (most-sum x y (r .0) q (r .1 .1) (at-most y q b)) (times-less (r .0) p q (exp-above-pos y q b) (r .1 .0))
+    go (inl z) (inr s) =
+        let r = room-above y q s b in
+        above-of-most (sum-of x y) (p ⊠ r .0) (p ⊠ q) (most-sum x y p (r .0) (at-most x p a) (r .1 .1)) (swap-less (r .0) q p (times-less (r .0) q p (exp-above-pos x p a) (r .1 .0)))
+    go (inl z) (inl w) =
+        exp-above-more (sum-of x y) (nat 1) (p ⊠ q) (mono-⊠ (nat 1) p (nat 1) q (one-below x p z a) (one-below y q w b)) (exp-zero (sum-of x y) (flat-sum x y z w) .0)
+
+-- 0 lies below every e ^ x
+none-below : (x : Signed) (q : Frac) → q .top ≡ 0 → BelowExp x q
+none-below x q z = let f = least-some x in below-of-least x (f .0) q (f .1 .1) (rw z (less (f .0 .bot) (f .0 .top) (q .bot) (mul-pos (f .1 .0) (q .good))))
+  where
+    less : (b t c : ℕ) → 0 < t * c → 0 * b < t * c
+    less b t c h = omega arith
+
+pub exp-below-sum : (x y : Signed) (p q : Frac) → BelowExp x p → BelowExp y q → BelowExp (sum-of x y) (p ⊠ q)
+exp-below-sum x y p q a b = go (eq-zero-or-pos (size x .top)) (eq-zero-or-pos (size y .top)) (eq-zero-or-pos (p .top)) (eq-zero-or-pos (q .top))
+  where
+    go : (size x .top ≡ 0) ⊎ (0 < size x .top) → (size y .top ≡ 0) ⊎ (0 < size y .top) → (p .top ≡ 0) ⊎ (0 < p .top) → (q .top ≡ 0) ⊎ (0 < q .top) → BelowExp (sum-of x y) (p ⊠ q)
+    go i j (inl e) l = none-below (sum-of x y) (p ⊠ q) (rw e (omega arith))
+    go i j (inr P) (inl e) = none-below (sum-of x y) (p ⊠ q) (rw e (omega arith))
+    go (inr s) j (inr P) (inr Q) =
+        let r = room-below x p s a in
+        below-of-least (sum-of x y) (r .0 ⊠ q) (p ⊠ q) (least-sum x y (r .0) q (r .1 .1) (at-least y q b)) (times-less p (r .0) q Q (r .1 .0))
+    go (inl z) (inr s) (inr P) (inr Q) =
+        let r = room-below y q s b in
+        below-of-least (sum-of x y) (p ⊠ r .0) (p ⊠ q) (least-sum x y p (r .0) (at-least x p a) (r .1 .1)) (swap-less q (r .0) p (times-less q (r .0) p P (r .1 .0)))
+    go (inl z) (inl w) (inr P) (inr Q) =
+        exp-below-less (sum-of x y) (nat 1) (p ⊠ q) (mono-⊠ p (nat 1) q (nat 1) (one-above x p z a) (one-above y q w b)) (exp-zero (sum-of x y) (flat-sum x y z w) .1)
+
+-- ---- monotony
+-- e ^ -a ≤ 1 / (1 + a) and 1 + a ≤ e ^ a
+one-more : (d b : ℕ) (B : 0 < b) → (S 1 (record { top = d; bot = b; good = B }) .top ≡ b + d) × (S 1 (record { top = d; bot = b; good = B }) .bot ≡ b)
+unfolding sumTop sumBot
+one-more d b B = (rw (pow-suc d 0, native.Mathlib.Nat.pow-zero d) (omega arith), omega arith)
+
+most-negative : (x : Signed) → x .plus ≤ x .minus → AtMost x (record { top = x .bot; bot = x .bot + (x .minus - x .plus); good = le-trans (x .good) (native.Mathlib.Nat.le-add-right (x .bot) (x .minus - x .plus)) })
+most-negative x h A o m =
+    let d = x .minus - x .plus in
+    let a : Frac = record { top = d; bot = x .bot; good = x .good } in
+    let u = positives x in
+    let e = one-more d (x .bot) (x .good) in
+    let k : S m u ⊠ S 1 a ⊑ A = ⊑-trans (S m u ⊠ S 1 a) (S (1 + m) (u ⊞ a)) A (law-upper m 1 u a) (⊑-trans (S (1 + m) (u ⊞ a)) (S (1 + m) (negatives x)) A (S-arg (1 + m) (u ⊞ a) (negatives x) (fits (x .plus) (x .minus) d (x .bot) (add-sub-of-le h))) (o (1 + m))) in
+    turn (S m u .top) (S m u .bot) (A .top) (A .bot) (x .bot) (x .bot + d) (rw (e .0, e .1) at k)
+  where
+    fits : (p m d b : ℕ) → p + d ≡ m → (p * b + d * b) * b ≤ m * (b * b)
+    fits p m d b e = omega (arith, ap (λ (z : ℕ). z * (b * b)) e)
+
+    turn : (s s' A A' b c : ℕ) → s * c * A' ≤ A * (s' * b) → s * (c * A') ≤ b * A * s'
+    turn s s' A A' b c h = omega (arith, h)
+
+least-positive : (x : Signed) → x .minus ≤ x .plus → AtLeast x (record { top = x .bot + (x .plus - x .minus); bot = x .bot; good = x .good })
+least-positive x h A o m =
+    let d = x .plus - x .minus in
+    let a : Frac = record { top = d; bot = x .bot; good = x .good } in
+    let v = negatives x in
+    let e = one-more d (x .bot) (x .good) in
+    let k : S 1 a ⊠ S m v ⊑ A = ⊑-trans (S 1 a ⊠ S m v) (S (m + 1) (a ⊞ v)) A (law-upper 1 m a v) (⊑-trans (S (m + 1) (a ⊞ v)) (S (m + 1) (positives x)) A (S-arg (m + 1) (a ⊞ v) (positives x) (fits (x .minus) (x .plus) d (x .bot) (add-sub-of-le h))) (o (m + 1))) in
+    rw (e .0, e .1) at k
+  where
+    fits : (m p d b : ℕ) → m + d ≡ p → (d * b + m * b) * b ≤ p * (b * b)
+    fits m p d b e = omega (arith, ap (λ (z : ℕ). z * (b * b)) e)
+
+-- against an argument that is 0
+low-zero : (x y : Signed) → Low x y → y .plus ≡ y .minus → x .plus ≤ x .minus
+low-zero x y l e = clear (x .plus) (x .minus) (x .bot) (y .plus) (y .minus) (y .bot) (x .good) (y .good) e l
+  where
+    clear : (p m b r n c : ℕ) → 0 < b → 0 < c → r ≡ n → (p * c + n * b) * (c * b) ≤ (r * b + m * c) * (b * c) → p ≤ m
+    clear p m b r n c B C e h = le-of-mul-le-mul-right {k = c * (b * c)} (omega (arith, h, ap (λ (z : ℕ). z * (b * (b * c))) e)) (mul-pos C (mul-pos B C))
+
+zero-low : (x y : Signed) → Low x y → x .plus ≡ x .minus → y .minus ≤ y .plus
+zero-low x y l e = clear (x .plus) (x .minus) (x .bot) (y .plus) (y .minus) (y .bot) (x .good) (y .good) e l
+  where
+    clear : (p m b r n c : ℕ) → 0 < b → 0 < c → p ≡ m → (p * c + n * b) * (c * b) ≤ (r * b + m * c) * (b * c) → n ≤ r
+    clear p m b r n c B C e h = le-of-mul-le-mul-right {k = b * (b * c)} (omega (arith, h, ap (λ (z : ℕ). z * (c * (b * c))) e)) (mul-pos B (mul-pos B C))
+
+pub exp-above-arg : (x y : Signed) (q : Frac) → Low x y → AboveExp y q → AboveExp x q
+exp-above-arg x y q l a = go (eq-zero-or-pos (size y .top)) (eq-zero-or-pos (size x .top))
+  where
+    go : (size y .top ≡ 0) ⊎ (0 < size y .top) → (size x .top ≡ 0) ⊎ (0 < size x .top) → AboveExp x q
+    go (inr s) k = let r = room-above y q s a in above-of-most x (r .0) q (most-arg x y (r .0) l (r .1 .1)) (r .1 .0)
+    go (inl z) (inl w) = exp-above-more x (nat 1) q (one-below y q z a) (exp-zero x (zero-of x w) .0)
+    go (inl z) (inr s) =
+        let h = low-zero x y l (zero-of y z) in
+        above-of-most x (record { top = x .bot; bot = x .bot + (x .minus - x .plus); good = le-trans (x .good) (native.Mathlib.Nat.le-add-right (x .bot) (x .minus - x .plus)) }) q (most-negative x h) (less (x .plus) (x .minus) (x .bot) (q .top) (q .bot) h s (q .good) (one-below y q z a))
+      where
+        less : (p m b qt qb : ℕ) → p ≤ m → 0 < p - m + (m - p) → 0 < qb → 1 * qb ≤ qt * 1 → b * qb < qt * (b + (m - p))
+        less p m b qt qb h s Q k =
+            let d : 0 < m - p = omega arith in
+            let w : qb ≤ qt = omega arith in
+            omega (arith, mul-le-mul-right b w, mul-pos (lt-of-lt-of-le Q w) d)
+
+pub exp-below-arg : (x y : Signed) (q : Frac) → Low x y → BelowExp x q → BelowExp y q
+exp-below-arg x y q l a = go (eq-zero-or-pos (size x .top)) (eq-zero-or-pos (size y .top))
+  where
+    go : (size x .top ≡ 0) ⊎ (0 < size x .top) → (size y .top ≡ 0) ⊎ (0 < size y .top) → BelowExp y q
+    go (inr s) k = let r = room-below x q s a in below-of-least y (r .0) q (least-arg x y (r .0) l (r .1 .1)) (r .1 .0)
+    go (inl z) (inl w) = exp-below-less y (nat 1) q (one-above x q z a) (exp-zero y (zero-of y w) .1)
+    go (inl z) (inr s) =
+        let h = zero-low x y l (zero-of x z) in
+        below-of-least y (record { top = y .bot + (y .plus - y .minus); bot = y .bot; good = y .good }) q (least-positive y h) (less (y .plus) (y .minus) (y .bot) (q .top) (q .bot) h s (q .good) (one-above x q z a))
+      where
+        less : (p m b qt qb : ℕ) → m ≤ p → 0 < p - m + (m - p) → 0 < qb → qt * 1 ≤ 1 * qb → qt * b < (b + (p - m)) * qb
+        less p m b qt qb h s Q k =
+            let d : 0 < p - m = omega arith in
+            let w : qt ≤ qb = omega arith in
+            omega (arith, mul-le-mul-right b w, mul-pos d Q)
+
+-- ---- e ^ (n x)
+pub exp-above-times : (n : ℕ) (x : Signed) (q : Frac) → AboveExp x q → AboveExp (times-of n x) (power n q)
+unfolding power
+exp-above-times zero x q a = exp-zero (times-of 0 x) (omega arith) .0
+exp-above-times (suc n) x q a = exp-above-arg (times-of (suc n) x) (sum-of x (times-of n x)) (q ⊠ power n q) (next n x .0) (exp-above-sum x (times-of n x) q (power n q) a (exp-above-times n x q a))
+
+pub exp-below-times : (n : ℕ) (x : Signed) (q : Frac) → BelowExp x q → BelowExp (times-of n x) (power n q)
+unfolding power
+exp-below-times zero x q a = exp-zero (times-of 0 x) (omega arith) .1
+exp-below-times (suc n) x q a = exp-below-arg (sum-of x (times-of n x)) (times-of (suc n) x) (q ⊠ power n q) (next n x .1) (exp-below-sum x (times-of n x) q (power n q) a (exp-below-times n x q a))
