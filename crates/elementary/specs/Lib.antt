@@ -17,3 +17,4 @@ pub mod LnDistanceSum
 pub mod LnDistanceParts
 pub mod LnDistanceDouble
 pub mod LnLaws
+pub mod LnDistance
