@@ -1,5 +1,6 @@
--- The steps of the elementary functions, and their distances from the exact values. To read for exp: Exp with ExpTable, its steps, and ExpDistance, the theorem;
--- the other modules are the theorem's proof, each before those that use it.
+-- The steps of the elementary functions, and the distances of exp and ln from the exact values.
+-- To read: Exp with ExpTable, Ln with LnTable, Power, Sqrt, Hyperbolic are the steps that contracts name; ExpDistance and LnDistance the theorems. The other
+-- modules are the proofs of these, each before those that use it.
 pub mod Match
 pub mod Signed
 pub mod Exactly
@@ -18,3 +19,22 @@ pub mod ExpSum
 pub mod ExpFloat
 pub mod ExpBound
 pub mod ExpDistance
+pub mod LnTable
+pub mod Ln
+pub mod LnFields
+pub mod LnMatch
+pub mod LnPatterns
+pub mod LnDistanceTwo
+pub mod LnDistanceStep
+pub mod LnDistanceTable
+pub mod LnDistancePolynomial
+pub mod LnDistanceRatio
+pub mod LnDistanceSignificand
+pub mod LnDistanceExact
+pub mod LnDistanceError
+pub mod LnDistanceSigns
+pub mod LnDistanceSum
+pub mod LnDistanceParts
+pub mod LnDistanceDouble
+pub mod LnLaws
+pub mod LnDistance

@@ -1,2 +1,4 @@
-// Elementary functions: each answers what its steps in specs/ give, for every double.
+// Elementary functions on doubles, each equal to its definition in specs/ for every double. The crates above see those names and their laws only.
+
 pub mod exp;
+pub mod ln;
