@@ -1,0 +1,3 @@
+-- Laws of this crate that belong to no one function.
+pub mod Nan
+pub mod Signed
