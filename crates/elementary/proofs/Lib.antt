@@ -1,3 +1,6 @@
 -- Laws of this crate that belong to no one function.
 pub mod Nan
 pub mod Signed
+pub mod Lead
+pub mod Pattern
+pub mod Root

@@ -1,6 +1,6 @@
 -- What the elementary functions give.
 pub mod Exp
 pub mod Ln
-pub mod Sqrt
 pub mod Power
+pub mod Sqrt
 pub mod Hyperbolic
