@@ -4,3 +4,4 @@ pub mod Signed
 pub mod Lead
 pub mod Pattern
 pub mod Root
+pub mod Nearest
