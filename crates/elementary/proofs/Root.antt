@@ -1,10 +1,11 @@
 -- The root of a whole number: `rootOf` gives the one q with q² ≤ n < (q + 1)², and the loop of `digits` finds it. Assumes nothing.
 use mathlib.Core.Path.{_≡_, refl, sym, ap, _∙_, subst}
-use mathlib.Core.Bool.{Bool, true, false, cond, not}
+use mathlib.Core.Bool.{Bool, true, false, cond, not, _&&_}
 use Prim.Native.Nat.{ℕ, zero, suc, _+_, _-_, _*_, _/_, _%_, _^_, _≤_, _<_}
-use native.Mathlib.Nat.{le-antisymm, le-of-suc-le-suc, lt-of-not-le, lt-irrefl, lt-of-lt-of-le, le-trans, mul-le-mul, mul-le-mul-right, le-of-mul-le-mul-right, lt-of-mul-lt-mul-right, pow-suc, lt-of-le-of-lt}
+use native.Mathlib.Nat.{le-antisymm, le-of-suc-le-suc, lt-of-not-le, lt-irrefl, lt-of-lt-of-le, le-trans, le-of-eq, mul-le-mul, mul-le-mul-right, le-of-mul-le-mul-right, lt-of-mul-lt-mul-right, pow-suc, lt-of-le-of-lt}
 use native.Mathlib.Omega.{arith}
-use lib.Dec.{T, leb, leb→le, nleb→lt}
+use lib.Dec.{T, leb, ltb, leb→le, ltb→lt, nleb→lt}
+use lib.Ieee.Fits.{and-l, and-r}
 use lib.Pow.{pow-pos}
 use Rattle.elementary.specs.Sqrt.{withDigit, rootOf, nearestRoot, significandOf, exponentOf, rootBits}
 
@@ -136,13 +137,80 @@ found-all n q left bit h f =
     let b : n < (q + 1) * (q + 1) = rw u at (f .below) in
     root-unique n q (rootOf 54 n) (record { low = omega arith; high = b }) (root-is 54 n h)
 
+-- ---- the whole number nearest to a root
+pub nearest-small : (n : ℕ) → n < 2 ^ 106 → nearestRoot n ≤ 2 ^ 53
+unfolding nearestRoot
+nearest-small n h =
+    let r = root-is 54 (4 * n) (omega arith) in
+    let below : rootOf 54 (4 * n) < 2 ^ 54 = lt-of-not-le (λ (g : 2 ^ 54 ≤ rootOf 54 (4 * n)). lt-irrefl (4 * n) (lt-of-lt-of-le (omega arith) (le-trans (mul-le-mul g g) (r .low)))) in
+    omega arith
+
+pub nearest-bound : (x q : ℕ) → x < 2 ^ 54 → q ≡ nearestRoot (x * 2 ^ 52) → q ≤ 2 ^ 53
+nearest-bound x q h e = le-trans (le-of-eq e) (nearest-small (x * 2 ^ 52) (omega arith))
+
+-- by the root's digits
+pub nearest-digits : (x r : ℕ) → r ≡ rootOf 54 (x * 2 ^ 54) → (r + 1) / 2 ≡ nearestRoot (x * 2 ^ 52)
+unfolding nearestRoot
+nearest-digits x r e = let f : x * 2 ^ 54 ≡ 4 * (x * 2 ^ 52) = omega arith in ap (λ (k : ℕ). (k + 1) / 2) (e ∙ ap (rootOf 54) f)
+
+-- q² - q < n ≤ q² + q says that q is nearest
+rounded : (n q r : ℕ) → Root (4 * n) r → q * q < n + q → n ≤ q * q + q → q ≡ (r + 1) / 2
+rounded n q r s l h =
+    let most : r < 2 * q + 1 = lt-of-not-le (λ (g : 2 * q + 1 ≤ r). let e : (2 * q + 1) * (2 * q + 1) ≤ r * r = mul-le-mul g g in lt-irrefl (r * r) (lt-of-le-of-lt (s .low) (lt-of-lt-of-le (omega arith) e))) in
+    let least : 2 * q < r + 2 = lt-of-not-le (λ (g : r + 2 ≤ 2 * q). under (2 * q - 1) (omega arith) (omega arith)) in
+    omega arith
+  where
+    under : (p : ℕ) → p + 1 ≡ 2 * q → r + 1 ≤ p → ⊥
+    under p e g =
+        let square : (p + 1) * (p + 1) ≡ 2 * q * (2 * q) = ap (λ (v : ℕ). v * v) e in
+        let more : (r + 1) * (r + 1) ≤ p * p = mul-le-mul g g in
+        let t = s .high in
+        omega arith
+
+pub nearest-is : (n q : ℕ) → n < 2 ^ 106 → q * q < n + q → n ≤ q * q + q → q ≡ nearestRoot n
+unfolding nearestRoot
+nearest-is n q h l k = rounded n q (rootOf 54 (4 * n)) (root-is 54 (4 * n) (omega arith)) l k
+
+-- with q = high × 2 ^ 26 + low, a × 2 ^ 27 is n - q² + low² + 2 ^ 54
+module _ (x q high low a : ℕ) (x-small : x < 2 ^ 54) (parts : q ≡ high * 2 ^ 26 + low) (a-is : a + high * low + high * high * 2 ^ 25 ≡ (x + 4) * 2 ^ 25) where
+  square : q * q ≡ high * high * 2 ^ 52 + high * low * 2 ^ 27 + low * low
+  square = rw parts (omega arith)
+
+  nearest-parts : 2 ^ 54 + low * low < a * 2 ^ 27 + q → a * 2 ^ 27 ≤ 2 ^ 54 + low * low + q → q ≡ nearestRoot (x * 2 ^ 52)
+  nearest-parts l k =
+      let s = square in
+      let below : q * q < x * 2 ^ 52 + q = omega arith in
+      let above : x * 2 ^ 52 ≤ q * q + q = omega arith in
+      nearest-is (x * 2 ^ 52) q (omega arith) below above
+
+-- what the test of `is_nearest` says
+pub nearest-tested : (x q high low : ℕ) → x < 2 ^ 54 → high ≡ q / 2 ^ 26 → low ≡ q % 2 ^ 26 → high * high ≤ x + 4 → high * low ≤ (x + 4 - high * high) * 2 ^ 25
+    → (ltb (2 ^ 54 + low * low) (((x + 4 - high * high) * 2 ^ 25 - high * low) * 2 ^ 27 + q) && leb (((x + 4 - high * high) * 2 ^ 25 - high * low) * 2 ^ 27) (2 ^ 54 + low * low + q)) ≡ true
+    → q ≡ nearestRoot (x * 2 ^ 52)
+nearest-tested x q high low h eh el l k t =
+    let a = (x + 4 - high * high) * 2 ^ 25 - high * low in
+    let b = ltb (2 ^ 54 + low * low) (a * 2 ^ 27 + q) in
+    let c = leb (a * 2 ^ 27) (2 ^ 54 + low * low + q) in
+    let u : T (b && c) = subst T (sym t) tt in
+    nearest-parts x q high low a h (omega arith) (omega arith) (ltb→lt _ _ (and-l b c u)) (leb→le _ _ (and-r b c u))
+
+-- the products fit
+pub square-small : (q : ℕ) → q < 2 ^ 55 → q / 2 ^ 26 * (q / 2 ^ 26) ≤ 2 ^ 58
+square-small q h = let g : q / 2 ^ 26 ≤ 2 ^ 29 = omega arith in mul-le-mul g g
+
+pub cross-small : (q : ℕ) → q < 2 ^ 55 → q / 2 ^ 26 * (q % 2 ^ 26) ≤ 2 ^ 55
+cross-small q h = let g : q / 2 ^ 26 ≤ 2 ^ 29 = omega arith in let k : q % 2 ^ 26 ≤ 2 ^ 26 = omega arith in mul-le-mul g k
+
+pub low-small : (q : ℕ) → q % 2 ^ 26 * (q % 2 ^ 26) ≤ 2 ^ 52
+low-small q = let k : q % 2 ^ 26 ≤ 2 ^ 26 = omega arith in mul-le-mul k k
+
 -- ---- the radicand with the exponent's odd part, as code has it
-pub radicand-odd : (m e : ℕ) → e % 2 ≡ 1 → 2 * m * 2 ^ 54 ≡ 4 * (m * 2 ^ (52 + e % 2))
+pub radicand-odd : (m e : ℕ) → e % 2 ≡ 1 → 2 * m * 2 ^ 52 ≡ m * 2 ^ (52 + e % 2)
 radicand-odd m e h = rw h (omega arith)
 
-pub radicand-even : (m e : ℕ) → e % 2 ≡ 0 → m * 2 ^ 54 ≡ 4 * (m * 2 ^ (52 + e % 2))
+pub radicand-even : (m e : ℕ) → e % 2 ≡ 0 → m * 2 ^ 52 ≡ m * 2 ^ (52 + e % 2)
 radicand-even m e h = rw h (omega arith)
 
-pub bits-of : (b q e m r : ℕ) → e ≡ exponentOf b → m ≡ significandOf b → r * 2 ^ 54 ≡ 4 * (m * 2 ^ (52 + e % 2)) → q ≡ rootOf 54 (r * 2 ^ 54) → (e / 2 - 1) * 2 ^ 52 + (q + 1) / 2 ≡ rootBits b
-unfolding rootBits nearestRoot
+pub bits-of : (b q e m r : ℕ) → e ≡ exponentOf b → m ≡ significandOf b → r * 2 ^ 52 ≡ m * 2 ^ (52 + e % 2) → q ≡ nearestRoot (r * 2 ^ 52) → (e / 2 - 1) * 2 ^ 52 + q ≡ rootBits b
+unfolding rootBits
 bits-of b q e m r he hm hr hq = rw (hq, hr, he, hm)

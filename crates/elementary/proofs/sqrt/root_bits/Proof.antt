@@ -2,9 +2,7 @@
 use borrow.Author.Needs.{needs}
 use native.Mathlib.Omega.{arith}
 use mathlib.Core.Logic.{⊎-elim}
-use Rattle.elementary.proofs.Root.{radicand-odd, radicand-even}
-use Rattle.elementary.specs.Sqrt.{nearestRoot, rootBits}
-use Rattle.elementary.proofs.Root.{bits-of}
+use Rattle.elementary.proofs.Root.{radicand-odd, radicand-even, bits-of}
 use Rattle.elementary.proofs.sqrt.root_bits.Statement.{statement}
 use Rattle.elementary.proofs.sqrt.root_bits.Tie as tie
 
@@ -23,23 +21,20 @@ sub-result c = search needs
 mul-result : tie.Need-mul-result
 mul-result c = search needs
 
-root-digits-requires : tie.Need-root-digits-requires
-root-digits-requires c κs = ⊎-elim (λ w. omega (arith, w .1)) (λ w. omega (arith, w .1)) (c .if1 .came)
+nearest-root-requires : tie.Need-nearest-root-requires
+nearest-root-requires c κs = ⊎-elim (λ w. omega (arith, w .1)) (λ w. omega (arith, w .1)) (c .if1 .came)
 
 add-result : tie.Need-add-result
 add-result c = search needs
-
-add-result-2 : tie.Need-add-result-2
-add-result-2 c = search needs
 
 returns : tie.Need-returns
 returns c =
     let e = c .before .before .exponent in
     let m = c .before .before .before .significand in
     let r = c .before .if1 .radicand in (
-      bits-of _ (c .root-digits .result) (e .result) (m .result) r (e .ensures .0) (m .ensures .0)
+      bits-of _ (c .nearest-root .result) (e .result) (m .result) r (e .ensures .0) (m .ensures .0)
           (⊎-elim (λ w. rw (w .1) (radicand-odd (m .result) (e .result) (w .0 .taken))) (λ w. rw (w .1) (radicand-even (m .result) (e .result) (omega (arith, w .0 .left)))) (c .before .if1 .came))
-          (c .root-digits .ensures .0),
+          (c .nearest-root .ensures .0),
       omega arith,
     )
 
@@ -52,7 +47,6 @@ root-bits-spec =
     mul-radicand
     sub-result
     mul-result
-    root-digits-requires
+    nearest-root-requires
     add-result
-    add-result-2
     returns)
