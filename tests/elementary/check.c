@@ -140,7 +140,7 @@ static void test_hyperbolic(void) {
 static void test_sqrt_random(void) {
     int wrong = 0;
     for (int i = 0; i < 1000000; i++) {
-        double x = of_bits(i % 4 ? next() & INT64_MAX : i % 8 ? next() & (UINT64_C(1) << 52) - 1 : next()), want = sqrt(x);
+        double x = of_bits(i % 4 ? next() & INT64_MAX : i % 8 ? next() & ((UINT64_C(1) << 52) - 1) : next()), want = sqrt(x);
         wrong += bits(elementary_sqrt(x)) != (want != want ? QUIET : bits(want));
     }
     printf("sqrt: 1000000 random doubles, %d unlike the machine's bits\n", wrong);
