@@ -164,6 +164,23 @@ static void test_random(void) {
     expect(worst_ln <= 1, "ln at random arguments");
 }
 
+/* ---- the bits at the special arguments, for a reader */
+static void table(void) {
+    double up = nextafter(700, 701), under = nextafter(700, 0), over = nextafter(20, 21), inside = nextafter(20, 0);
+    double at[] = { NAN, 0, -0.0, INFINITY, -INFINITY, least, subnormal, under, 700, up, -under, -700, -up, inside, 20, over, -inside, -20, -over };
+    printf("%16s %16s %16s %16s %16s %16s %16s\n", "argument", "exp", "ln", "sqrt", "sinh", "cosh", "tanh");
+    for (unsigned i = 0; i < sizeof at / sizeof *at; i++) {
+        double x = at[i], row[] = { x, elementary_exp(x), elementary_ln(x), elementary_sqrt(x), elementary_sinh(x), elementary_cosh(x), elementary_tanh(x) };
+        for (int k = 0; k < 7; k++) printf("%016" PRIx64 "%s", bits(row[k]), k < 6 ? " " : "\n");
+    }
+    double bases[] = { NAN, 0, -0.0, INFINITY, -INFINITY, least, subnormal, 1, -1, 2, 0.5, 1.000000001 };
+    printf("%16s %16s %16s %16s\n", "base", "powi -2147483648", "powi 2147483647", "powf 0.5");
+    for (unsigned i = 0; i < sizeof bases / sizeof *bases; i++) {
+        double x = bases[i];
+        printf("%016" PRIx64 " %016" PRIx64 " %016" PRIx64 " %016" PRIx64 "\n", bits(x), bits(elementary_powi(x, INT32_MIN)), bits(elementary_powi(x, INT32_MAX)), bits(elementary_powf(x, 0.5)));
+    }
+}
+
 /* ---- the stored vectors */
 static void test_vectors(const char *path) {
     FILE *in = fopen(path, "r");
@@ -204,6 +221,7 @@ static void test_vectors(const char *path) {
 
 int main(int argc, char **argv) {
     state = 20080301;
+    table();
     test_nan();
     test_exp_ln();
     test_sqrt_powf();

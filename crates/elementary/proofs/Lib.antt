@@ -5,3 +5,5 @@ pub mod Lead
 pub mod Pattern
 pub mod Root
 pub mod Nearest
+pub mod Order
+pub mod Laws

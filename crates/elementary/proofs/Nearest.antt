@@ -278,6 +278,7 @@ pub record Nearest (x y : Float) : Type 0 where
   pub units-y : ℕ
   pub x-is : HasValue x false units-x (2 ^ 1074)
   pub y-is : HasValue y false units-y (2 ^ 1074)
+  pub y-above : 0 < units-y
   pub above : (z : Float) (u : ℕ) → T (fits binary64 z) → HasValue z false u (2 ^ 1074) → units-y < u → 4 * (units-x * 2 ^ 1074) < (units-y + u) * (units-y + u)
   pub below : (z : Float) (u : ℕ) → T (fits binary64 z) → HasValue z false u (2 ^ 1074) → u < units-y → (units-y + u) * (units-y + u) < 4 * (units-x * 2 ^ 1074)
 
@@ -311,6 +312,7 @@ sqrt-nearest x f e =
       units-y = nearestRoot n * 2 ^ j;
       x-is = subst (λ (v : Float). HasValue v false (h .units) (2 ^ 1074)) (ofBits-toBits binary64 x f) (h .value);
       y-is = normal-units (j * 2 ^ 52 + nearestRoot n) j (nearestRoot n) refl (r .low) (r .high) (omega (arith, h .place));
+      y-above = mul-pos (lt-of-lt-of-le (pow-pos 52) (r .low)) (pow-pos j);
       above = λ z u g v l. lt-of-le-of-lt (le-of-eq (ap (λ (k : ℕ). 4 * k) (h .same))) (other-above n (nearestRoot n) j r (h .low) u (shape z u g v) l);
       below = λ z u g v l. lt-of-lt-of-le (other-below n (nearestRoot n) j r (h .low) u (shape z u g v) l) (le-of-eq (ap (λ (k : ℕ). 4 * k) (sym (h .same))));
     })
