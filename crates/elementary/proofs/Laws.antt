@@ -5,7 +5,7 @@ use mathlib.Core.Bool.{Bool, true, false, not, _&&_, _||_}
 use Prim.Native.Nat.{_*_}
 use lib.Dec.{T}
 use lib.IntN.{pos}
-use lib.Ieee.{Float, nan, inf, fin, binary64, lt, le, eq, ne, neg, add, sub, mul, ofBits, toBits, isNan, fits, unlike, up, down}
+use lib.Ieee.{Float, nan, inf, fin, binary64, lt, le, eq, ne, neg, mul, ofBits, toBits, isNan, fits, unlike, up, down}
 use lib.Ieee.Bits.{is-true}
 use lib.Ieee.Positive.{positive, positive-finite, positive-of-value}
 use lib.Ieee.Scale.{finite}
@@ -18,7 +18,7 @@ use Rattle.elementary.specs.Power.{powfOf, powiOf, powerOf, greatest, po
 use Rattle.elementary.specs.Ln.{lnOf}
 use Rattle.elementary.specs.LnDistanceDouble.{ln-near}
 use Rattle.elementary.specs.Sqrt.{withDigit, rootOf, nearestRoot, shiftOf, significandOf, exponentOf, rootBits, sqrtOf}
-use Rattle.elementary.proofs.Nearest.{Nearest, sqrt-nearest}
+use Rattle.elementary.proofs.Nearest.{sqrt-nearest}
 use Rattle.elementary.proofs.Order.{not-less, not-greater, eq-back, positive-above, above-not-negative, positive-of-tests}
 
 -- ---- exp

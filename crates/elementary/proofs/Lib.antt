@@ -1,8 +1,6 @@
 -- Laws of this crate that belong to no one function.
 pub mod Nan
 pub mod Signed
-pub mod Lead
-pub mod Pattern
 pub mod Root
 pub mod Nearest
 pub mod Order

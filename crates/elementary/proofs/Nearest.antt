@@ -3,23 +3,23 @@
 -- 4 X 2 ^ 1074 < (Y + Z)² where Y < Z, and (Y + Z)² < 4 X 2 ^ 1074 where Z < Y. So no double is as near to the root as y, and no tie happens. Assumes nothing.
 use mathlib.Core.Path.{_≡_, refl, sym, ap, subst, _∙_}
 use mathlib.Core.Logic.{_⊎_, inl, inr}
-use mathlib.Core.Bool.{Bool, true, false, not, cond, _&&_}
+use mathlib.Core.Bool.{Bool, true, false, not, _&&_}
 use Prim.Native.Nat.{ℕ, zero, suc, _+_, _-_, _*_, _/_, _%_, _^_, _≤_, _<_}
-use native.Mathlib.Nat.{le-of-suc-le-suc, lt-of-not-le, lt-irrefl, lt-of-lt-of-le, lt-of-le-of-lt, le-trans, le-of-eq, eq-or-lt-of-le, mul-le-mul, mul-le-mul-right, mul-lt-mul-of-pos-right, lt-of-mul-lt-mul-right, mul-assoc, mul-pos, pow-suc, sub-add-cancel, mul-comm, le-antisymm, le-of-mul-le-mul-right}
+use native.Mathlib.Nat.{le-of-suc-le-suc, lt-of-not-le, lt-irrefl, lt-of-lt-of-le, lt-of-le-of-lt, le-trans, le-of-eq, eq-or-lt-of-le, mul-le-mul, mul-le-mul-right, mul-lt-mul-of-pos-right, lt-of-mul-lt-mul-right, mul-assoc, mul-pos, pow-suc, sub-add-cancel, le-antisymm, le-of-mul-le-mul-right}
 use native.Mathlib.Omega.{arith}
 use borrow.Author.Tests.{lt-ltb, le-ltb, lt-leb, ne-eqb}
-use lib.Dec.{T, leb, ltb, leb→le, nleb→lt, ltb→lt, eqb→eq, eqb, lit≤}
+use lib.Dec.{T, leb, ltb, leb→le, nleb→lt, ltb→lt, eqb→eq, eqb}
 use lib.IntN.{ℤ, pos, negsuc}
 use lib.Pow.{pow-pos, pow-mono, pow-add}
 use lib.Ieee.{Float, nan, inf, fin, binary64, up, down, odd, ofFields, ofBits, toBits, fits}
 use lib.Ieee.Bits.{ofBits-toBits}
 use lib.Ieee.Exact.{HasValue, odd-sign}
-use lib.Ieee.Fits.{and-l, and-r, down-pos}
+use lib.Ieee.Fits.{and-l, and-r}
 use Rattle.elementary.specs.Power.{positiveFinite}
 use Rattle.elementary.specs.Sqrt.{rootOf, nearestRoot, shiftOf, significandOf, exponentOf, rootBits, sqrtOf}
-use Rattle.elementary.proofs.Lead.{lead}
+use Rattle.elementary.specs.LnFields.{highest-bit, pattern-pos, pattern-below}
 use Rattle.elementary.proofs.Root.{Root, root-is}
-use Rattle.elementary.proofs.Pattern.{pattern-positive, pattern-finite, fields-of}
+use Rattle.elementary.proofs.Order.{positive-of-tests}
 
 -- ---- the whole number nearest to a root
 record Near (n q : ℕ) : Type 0 where
@@ -181,7 +181,8 @@ shape (fin s (suc m) e) u f h =
 
 -- ---- the units of a positive pattern
 fields-is : (b : ℕ) → b < 2 ^ 63 → ofBits binary64 b ≡ ofFields binary64 false (b / 2 ^ 52) (b % 2 ^ 52)
-fields-is b h = let e : b % 2 ^ 63 / 2 ^ 52 ≡ b / 2 ^ 52 = omega arith in fields-of b false (lt-leb (2 ^ 63) b h) ∙ ap (λ (k : ℕ). ofFields binary64 false k (b % 2 ^ 52)) e
+unfolding ofBits
+fields-is b h = let e : b % 2 ^ 63 / 2 ^ 52 ≡ b / 2 ^ 52 = omega arith in rw (lt-leb (2 ^ 63) b h, e)
 
 normal-fields : (k t : ℕ) → k < 2046 → ofFields binary64 false (suc k) t ≡ odd 53 false (2 ^ 52 + t) k 1074
 unfolding ofFields
@@ -236,7 +237,7 @@ radicand-high m e h = mul-le-mul {n₁ = m} {m₁ = 2 ^ (52 + e % 2)} {n₂ = 2 
 subnormal-halved : (b : ℕ) → 0 < b → b < 2 ^ 52 → Halved b
 unfolding significandOf exponentOf shiftOf
 subnormal-halved b p h =
-    let t = lead b p (omega arith) in
+    let t = highest-bit b p (omega arith) in
     let s = lib.Count.leadingZeros 64 b - 11 in
     let e = 1024 - s in
     let sum : 0 + 1074 ≡ s + (52 + e % 2) + (e / 2 - 1 + (e / 2 - 1)) = omega arith in
@@ -303,7 +304,7 @@ pub sqrt-nearest : (x : Float) → T (fits binary64 x) → positiveFinite x ≡ 
 unfolding sqrtOf rootBits
 sqrt-nearest x f e =
     let b = toBits binary64 x in
-    let h = halved b (pattern-positive x f e) (pattern-finite x f e) in
+    let h = halved b (pattern-pos x f (positive-of-tests x e)) (pattern-below x f (positive-of-tests x e)) in
     let n = significandOf b * 2 ^ (52 + exponentOf b % 2) in
     let j = exponentOf b / 2 - 1 in
     let r = near-is n (h .low) (h .high) in

@@ -1,5 +1,5 @@
 -- The order of doubles as tests see it: where x < y fails and neither is a NaN, y ≤ x. Assumes nothing.
-use mathlib.Core.Path.{_≡_, refl, sym, subst, ap, _∙_}
+use mathlib.Core.Path.{_≡_, refl, sym, subst, _∙_}
 use mathlib.Core.Logic.{_⊎_, inl, inr}
 use mathlib.Core.Bool.{Bool, true, false, not, _&&_, _||_, Bool·beq}
 use Prim.Native.Nat.{ℕ, zero, suc, _+_, _*_, _≤_, _<_}
@@ -63,6 +63,13 @@ not-less (inf false) (fin t n c) p q e = refl
 not-less (fin s m d) (inf true) p q e = refl
 not-less (fin s m d) (inf false) p q e = true-false e
 not-less (fin s m d) (fin t n c) p q e = reverse-signed s t (m * up d * down c) (n * up c * down d) e
+
+-- a double above zero is no NaN
+pub above-number : (x : Float) → lt +0 x ≡ true → T (not (isNan x))
+unfolding lt ofBits isNan
+above-number nan e = true-false (sym e)
+above-number (inf s) e = tt
+above-number (fin s m d) e = tt
 
 -- what `positive` says, as a test
 pub positive-above : (x : Float) → T (positive x) → lt +0 x ≡ true

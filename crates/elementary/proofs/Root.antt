@@ -2,7 +2,7 @@
 use mathlib.Core.Path.{_≡_, refl, sym, ap, _∙_, subst}
 use mathlib.Core.Bool.{Bool, true, false, cond, not, _&&_}
 use Prim.Native.Nat.{ℕ, zero, suc, _+_, _-_, _*_, _/_, _%_, _^_, _≤_, _<_}
-use native.Mathlib.Nat.{le-antisymm, le-of-suc-le-suc, lt-of-not-le, lt-irrefl, lt-of-lt-of-le, le-trans, le-of-eq, mul-le-mul, mul-le-mul-right, le-of-mul-le-mul-right, lt-of-mul-lt-mul-right, pow-suc, lt-of-le-of-lt}
+use native.Mathlib.Nat.{le-antisymm, le-of-suc-le-suc, lt-of-not-le, lt-irrefl, lt-of-lt-of-le, le-trans, le-of-eq, mul-le-mul, mul-le-mul-right, lt-of-mul-lt-mul-right, pow-suc, lt-of-le-of-lt}
 use native.Mathlib.Omega.{arith}
 use lib.Dec.{T, leb, ltb, leb→le, ltb→lt, nleb→lt}
 use lib.Ieee.Fits.{and-l, and-r}

@@ -7,7 +7,7 @@ use native.Mathlib.Nat.{zero-add}
 use native.Mathlib.Omega.{arith}
 use borrow.Author.Tests.{lt-ltb, le-ltb, le-leb}
 use lib.Dec.{T, ltb}
-use lib.Ieee.{Float, Format, prec, emax, low, size, nearest, odd, units, round, neg, inf, fin, ofInt}
+use lib.Ieee.{Float, Format, prec, emax, low, size, nearest, odd, units, round, neg, inf, ofInt}
 use lib.IntN.{ℤ, pos, negsuc, negℤ, natAbs, _+ℤ_, _-ℤ_}
 use lib.Signed.{leZ, ltZ, nonNeg}
 use mir.Syntax.{w32}

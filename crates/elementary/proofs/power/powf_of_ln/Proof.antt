@@ -1,7 +1,6 @@
 -- `elementary::power::powf_of_ln` meets its contract: the tests on each way, and the logarithm that the caller gave. Assumes nothing.
 use borrow.Author.Needs.{needs}
-use mathlib.Core.Path.{_∙_}
-use Rattle.elementary.proofs.Nan.{zero-over-zero}
+use Rattle.elementary.specs.LnPatterns.{zero-over-zero}
 use Rattle.elementary.specs.Power.{powfOf}
 use Rattle.elementary.proofs.power.powf_of_ln.Statement.{statement}
 use Rattle.elementary.proofs.power.powf_of_ln.Tie as tie

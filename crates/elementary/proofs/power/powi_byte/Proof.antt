@@ -1,6 +1,6 @@
 -- `elementary::power::powi_byte` meets its contract: each way is a law of `proofs/Signed.antt`. Assumes nothing.
 use borrow.Author.Needs.{needs}
-use mathlib.Core.Path.{_∙_, ap}
+use mathlib.Core.Path.{_∙_}
 use native.Mathlib.Omega.{arith}
 use Rattle.elementary.proofs.Signed.{byte-small, byte-large}
 use Rattle.elementary.proofs.power.powi_byte.Statement.{statement}

@@ -1,7 +1,5 @@
 -- `elementary::power::signed_double` meets its contract: below 128 the byte itself, else minus what it is below 256. Assumes nothing.
 use borrow.Author.Needs.{needs}
-use borrow.Author.Tests.{lt-ltb, le-ltb}
-use Rattle.elementary.specs.Power.{signedOf}
 use Rattle.elementary.proofs.Signed.{signed-small, double-large}
 use native.Mathlib.Omega.{arith}
 use lib.Ieee.{binary64}

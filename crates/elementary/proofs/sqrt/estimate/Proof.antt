@@ -1,6 +1,6 @@
 -- `elementary::sqrt::estimate` meets its contract: a double above zero has a pattern. Assumes nothing.
 use borrow.Author.Needs.{needs}
-use Rattle.elementary.proofs.Pattern.{above-number}
+use Rattle.elementary.proofs.Order.{above-number}
 use Rattle.elementary.proofs.sqrt.estimate.Statement.{statement}
 use Rattle.elementary.proofs.sqrt.estimate.Tie as tie
 

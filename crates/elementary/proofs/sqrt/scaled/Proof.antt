@@ -1,7 +1,7 @@
 -- `elementary::sqrt::scaled` meets its contract: its patterns are below infinity's. Assumes nothing.
 use borrow.Author.Needs.{needs}
 use native.Mathlib.Omega.{arith}
-use Rattle.elementary.proofs.Pattern.{pattern-number}
+use Rattle.elementary.specs.LnPatterns.{no-nan}
 use Rattle.elementary.proofs.sqrt.scaled.Statement.{statement}
 use Rattle.elementary.proofs.sqrt.scaled.Tie as tie
 
@@ -9,7 +9,7 @@ add-result : tie.Need-add-result
 add-result c = search needs
 
 float-from-bits-result : tie.Need-float-from-bits-result
-float-from-bits-result c = pattern-number _ (omega arith)
+float-from-bits-result c = no-nan _ (omega arith)
 
 returns : tie.Need-returns
 returns c = search needs
@@ -18,7 +18,7 @@ add-result-2 : tie.Need-add-result-2
 add-result-2 c = search needs
 
 float-from-bits-result-2 : tie.Need-float-from-bits-result-2
-float-from-bits-result-2 c = pattern-number _ (omega arith)
+float-from-bits-result-2 c = no-nan _ (omega arith)
 
 returns-2 : tie.Need-returns-2
 returns-2 c = search needs

@@ -2,7 +2,7 @@
 use borrow.Author.Needs.{needs}
 use native.Mathlib.Omega.{arith}
 use borrow.Author.Tests.{lt-ltb, le-ltb}
-use Rattle.elementary.proofs.Lead.{lead}
+use Rattle.elementary.specs.LnFields.{highest-bit}
 use Rattle.elementary.specs.Sqrt.{shiftOf, significandOf}
 use Rattle.elementary.proofs.sqrt.significand.Statement.{statement}
 use Rattle.elementary.proofs.sqrt.significand.Tie as tie
@@ -20,7 +20,7 @@ returns : tie.Need-returns
 unfolding significandOf shiftOf
 returns c =
     let t = c .before .if1 .taken in
-    let l = lead _ (c .before .before .pre .0) (omega arith) in
+    let l = highest-bit _ (c .before .before .pre .0) (omega arith) in
     rw (lt-ltb _ _ t, c .shift .ensures .0) (omega arith)
 
 add-result : tie.Need-add-result

@@ -1,24 +1,26 @@
 -- `elementary::sqrt::sqrt` meets its contract: the tests on each way, and the bounds of a positive double's pattern. Assumes nothing.
 use native.Mathlib.Omega.{arith}
-use mathlib.Core.Path.{sym, subst, _∙_}
+use mathlib.Core.Path.{sym, subst}
 use lib.Dec.{T}
-use Prim.Native.Nat.{_<_}
-use Rattle.elementary.proofs.Nan.{zero-over-zero}
-use Rattle.elementary.proofs.Pattern.{above-zero, above-number, pattern-positive, pattern-unsigned, pattern-number}
+use Rattle.elementary.specs.LnFields.{pattern-pos, pattern-below, positive-number}
+use Rattle.elementary.specs.LnPatterns.{zero-over-zero, no-nan}
+use Rattle.elementary.proofs.Order.{positive-of-tests}
 use Rattle.elementary.specs.Sqrt.{sqrtOf}
 use Rattle.elementary.proofs.sqrt.sqrt.Statement.{statement}
 use Rattle.elementary.proofs.sqrt.sqrt.Tie as tie
 
 float-to-bits-root-bits : tie.Need-float-to-bits-root-bits
-float-to-bits-root-bits c = above-number _ (above-zero _ (c .if1 .taken))
+float-to-bits-root-bits c = positive-number _ (positive-of-tests _ (c .if1 .taken))
 
 root-bits-requires : tie.Need-root-bits-requires
 root-bits-requires c κs =
     let f = subst T (sym (c .before .good .0 .1)) tt in
-    (pattern-positive _ f (c .if1 .taken), pattern-unsigned _ f (c .if1 .taken))
+    let p = positive-of-tests _ (c .if1 .taken) in
+    let h = pattern-below _ f p in
+    (pattern-pos _ f p, omega arith)
 
 float-from-bits-result : tie.Need-float-from-bits-result
-float-from-bits-result c = pattern-number _ (c .root-bits .ensures .1)
+float-from-bits-result c = let h = c .root-bits .ensures .1 in no-nan _ (omega arith)
 
 returns : tie.Need-returns
 unfolding sqrtOf
