@@ -1,6 +1,7 @@
 -- sqrt gives "the nearest double". Every finite double is a whole number of units of the smallest one, 2 ^ -1074. With x = X units and the answer
 -- y = Y units, the root of x is the root of X × 2 ^ 1074 units; and for a double of Z other units the middle of y and z is on z's side of the root:
--- 4 X 2 ^ 1074 < (Y + Z)² where Y < Z, and (Y + Z)² < 4 X 2 ^ 1074 where Z < Y. So no double is as near to the root as y, and no tie happens. Assumes nothing.
+-- 4 X 2 ^ 1074 < (Y + Z)² where Y < Z, and (Y + Z)² < 4 X 2 ^ 1074 where Z < Y. So no double is as near to the root as y, and no tie happens.
+-- (A negative double is further from the root than the positive one of its size.) Assumes nothing.
 use mathlib.Core.Path.{_≡_, refl, sym, ap, subst, _∙_}
 use mathlib.Core.Logic.{_⊎_, inl, inr}
 use mathlib.Core.Bool.{Bool, true, false, not, _&&_}
