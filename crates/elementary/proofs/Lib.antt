@@ -5,3 +5,4 @@ pub mod Root
 pub mod Nearest
 pub mod Order
 pub mod Laws
+pub mod Special
