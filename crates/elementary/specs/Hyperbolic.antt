@@ -10,7 +10,7 @@ half = bits 0x3fe0_0000_0000_0000
 abbrev pub twenty : Float
 twenty = bits 0x4034_0000_0000_0000
 
--- "half of exp v ∓ exp(−v)"
+-- "half of exp v ∓ exp(−v)": the difference or sum is rounded, then its half
 unfoldable pub sinhOf : Float → Float
 sinhOf v = half ⊗ (expOf v ⊖ expOf (neg v))
 

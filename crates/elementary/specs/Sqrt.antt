@@ -36,5 +36,6 @@ exponentOf b = pick (ltb b (2 ^ 52)) (1024 - shiftOf b) (b / 2 ^ 52 + 1023)
 unfoldable pub rootBits : ℕ → ℕ
 rootBits b = (exponentOf b / 2 - 1) * 2 ^ 52 + nearestRoot (significandOf b * 2 ^ (52 + exponentOf b % 2))
 
+-- "the nearest double; ±0 and +infinity give themselves", "all else gives NaN"
 unfoldable pub sqrtOf : Float → Float
 sqrtOf x = pick (positiveFinite x) (bits (rootBits (toBits binary64 x))) (pick (eq x +0 || lt greatest x) x nan)
