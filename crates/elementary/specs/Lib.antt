@@ -38,3 +38,6 @@ pub mod LnDistanceParts
 pub mod LnDistanceDouble
 pub mod LnLaws
 pub mod LnDistance
+pub mod Power
+pub mod Sqrt
+pub mod Hyperbolic
