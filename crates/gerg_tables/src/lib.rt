@@ -1,4 +1,6 @@
 // The coefficient file and its tables.
+mod bytes;
+mod file;
 pub mod named;
 
 // The tables of a coefficient file as two flat arrays.

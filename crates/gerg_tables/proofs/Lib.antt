@@ -1,0 +1,4 @@
+-- Laws that the proofs of this crate share.
+pub mod Tests
+pub mod Chain
+pub mod Sections
