@@ -2,3 +2,5 @@
 pub mod Tests
 pub mod Chain
 pub mod Sections
+pub mod Put
+pub mod Rows

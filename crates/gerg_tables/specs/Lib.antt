@@ -2,3 +2,4 @@
 pub mod Tables
 pub mod Bytes
 pub mod File
+pub mod Load

@@ -1,7 +1,9 @@
 // The coefficient file and its tables.
 mod bytes;
 mod file;
+mod load;
 pub mod named;
+mod records;
 
 // The tables of a coefficient file as two flat arrays.
 pub struct Tables {
