@@ -4,3 +4,4 @@ pub mod Chain
 pub mod Sections
 pub mod Put
 pub mod Rows
+pub mod Whole

@@ -160,3 +160,30 @@ fn put_departures(
         m += 1;
     }
 }
+
+// All numbers of an accepted file.
+fn put_tables(s: &[u8], l: Layout, doubles: &mut [f64; 4086], integers: &mut [u8; 1631])
+    ensures { λ _. ⌜ (now (doubles .exit) ≡ sets (now (doubles .entry)) 0 (Load.doubles (now (s .entry)) l)) × (now (integers .exit) ≡ sets (now (integers .entry)) 0 (Load.integers (now (s .entry)) l)) ⌝ }
+{
+    put_components(s, doubles, integers);
+    put_terms(s, l.terms, doubles, integers);
+    put_pairs(s, l.pairs, doubles, integers);
+    let functions = Records {
+        base: l.functions,
+        size: 4,
+        before: 0,
+        first: 0,
+        end: l.count,
+    };
+    put_record_bytes(s, functions, 2, 10, 2, 1491, integers);
+    put_departures(s, l.functions, l.count, l.departures, doubles, integers);
+}
+
+pub fn load(s: &[u8], l: Layout) -> Tables
+    ensures { λ r. ⌜ r ≡ loaded (now (s .entry)) l ⌝ }
+{
+    let mut doubles = [0.0; 4086];
+    let mut integers = [0u8; 1631];
+    put_tables(s, l, &mut doubles, &mut integers);
+    Tables { doubles, integers }
+}
