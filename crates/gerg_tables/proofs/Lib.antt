@@ -5,3 +5,5 @@ pub mod Sections
 pub mod Put
 pub mod Rows
 pub mod Whole
+pub mod Some
+pub mod Cases

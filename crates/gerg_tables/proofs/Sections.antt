@@ -5,7 +5,7 @@ use Prim.Native.Nat.{ℕ}
 use Rattle.gerg_tables.specs.declared.file.Walk.{Walk}
 use Rattle.gerg_tables.specs.declared.file.Walk.the-variants.{To, Bad}
 use Rattle.gerg_tables.specs.declared.file.File.{File}
-use Rattle.gerg_tables.specs.declared.file.File.the-variants.{Refused, Accepted}
+use Rattle.gerg_tables.specs.declared.file.File.the-variants.{Malformed, WellFormed}
 use Rattle.gerg_tables.specs.declared.file.Layout.{Layout}
 use Rattle.gerg_tables.specs.File.{follow, chain, counted, group, pairRow, place, functions, atEnd, afterRevision, afterComponents, afterTerms, afterPairs, functionCount, afterFunctions, afterDepartures, verdict, fileOf}
 
@@ -48,11 +48,11 @@ module _ (s : List ℕ) {h co te pa fu de en : Walk} {pl pl2 n : ℕ}
     end : en ≡ follow (afterDepartures s) (atEnd s)
     end = rw (ee, departures)
 
-    pub refused : {at : ℕ} → en ≡ Bad at → Refused at ≡ fileOf s
+    pub refused : {at : ℕ} → en ≡ Bad at → Malformed at ≡ fileOf s
     unfolding fileOf verdict
     refused q = ap (verdict s) (sym q ∙ end)
 
     pub accepted : {at p3 p4 p5 p6 : ℕ} → en ≡ To at → p3 ≡ place co → p4 ≡ place te → p5 ≡ place pa → p6 ≡ place fu
-        → Accepted (record { terms = p3; pairs = p4; functions = p5; count = n; departures = p6; length = at }) ≡ fileOf s
+        → WellFormed (record { terms = p3; pairs = p4; functions = p5; count = n; departures = p6; length = at }) ≡ fileOf s
     unfolding fileOf verdict
     accepted q a b c d = rw (a, b, c, d, components, terms', pairs, functions', count) (ap (verdict s) (sym q ∙ end))

@@ -117,5 +117,9 @@ module _ (s : List ℕ) (l : Layout) where
       → _≡_ {A = Tables} (record { doubles = d; integers = n }) (loaded s l)
   unfolding loaded
   loaded-is e g =
-      rw (e, g, whole (replicate 4086 +0) (doubles s l) (length-doubles ∙ sym (length-replicate 4086 +0)),
-      whole (replicate 1631 0) (integers s l) (length-integers ∙ sym (length-replicate {A = ℕ} 1631 0)))
+      rw (
+        e,
+        g,
+        whole (replicate 4086 +0) (doubles s l) (length-doubles ∙ sym (length-replicate 4086 +0)),
+        whole (replicate 1631 0) (integers s l) (length-integers ∙ sym (length-replicate {A = ℕ} 1631 0)),
+      )

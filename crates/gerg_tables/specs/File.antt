@@ -9,7 +9,7 @@ use Rattle.gerg_tables.specs.Bytes.{byte, termCount}
 use Rattle.gerg_tables.specs.declared.file.Walk.{Walk}
 use Rattle.gerg_tables.specs.declared.file.Walk.the-variants.{To, Bad}
 use Rattle.gerg_tables.specs.declared.file.File.{File}
-use Rattle.gerg_tables.specs.declared.file.File.the-variants.{Refused, Accepted}
+use Rattle.gerg_tables.specs.declared.file.File.the-variants.{Malformed, WellFormed}
 use Rattle.gerg_tables.specs.declared.file.Layout.{Layout}
 
 -- on from where the walk has come, unless it met a bad record
@@ -100,9 +100,9 @@ atEnd s at = pick (eqb at (length s)) (To at) (Bad at)
 
 -- "offset of that record, or of the first byte over", or where the sections begin
 unfoldable pub verdict : List ℕ → Walk → File
-verdict s (Bad at) = Refused at
+verdict s (Bad at) = Malformed at
 verdict s (To at) =
-    Accepted
+    WellFormed
     (record {
       terms = place (afterComponents s);
       pairs = place (afterTerms s);

@@ -3,3 +3,5 @@ pub mod Tables
 pub mod Bytes
 pub mod File
 pub mod Load
+pub mod Check
+pub mod Answer

@@ -318,8 +318,8 @@ pub struct Layout {
 }
 
 pub enum File {
-    Refused(usize),
-    Accepted(Layout),
+    Malformed(usize),
+    WellFormed(Layout),
 }
 
 pub fn read_layout(s: &[u8]) -> File
@@ -332,8 +332,8 @@ pub fn read_layout(s: &[u8]) -> File
     let functions = pairs.functions(s, count);
     let departures = functions.departures(s, pairs.place(), count);
     match departures.end(s) {
-        Walk::Bad(at) => File::Refused(at),
-        Walk::To(at) => File::Accepted(Layout {
+        Walk::Bad(at) => File::Malformed(at),
+        Walk::To(at) => File::WellFormed(Layout {
             terms: components.place(),
             pairs: terms.place(),
             functions: pairs.place(),
