@@ -7,3 +7,5 @@ pub mod Rows
 pub mod Whole
 pub mod Some
 pub mod Cases
+pub mod Lookup
+pub mod Numbers

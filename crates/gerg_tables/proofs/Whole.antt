@@ -29,34 +29,34 @@ module _ (s : List ℕ) (f : ℕ → Records) (offset count per n : ℕ) where
   length-byte-rows = length-flat (λ i. bytesOf s (f i) offset count per) (per * count) (λ k. length-bytesOf s (f k) offset per 0 count) n
 
 module _ (s : List ℕ) (l : Layout) where
-  abbrev critical : List Float
+  abbrev pub critical : List Float
   critical = doublesOf s components 2 21 2
 
-  abbrev ideal : List Float
+  abbrev pub ideal : List Float
   ideal = doublesOf s components 20 21 11
 
-  abbrev termDoubles : List Float
+  abbrev pub termDoubles : List Float
   termDoubles = flat (λ i. doublesOf s (terms s (l .terms) i) 5 24 2) 21
 
-  abbrev pairDoubles : List Float
+  abbrev pub pairDoubles : List Float
   pairDoubles = flat (λ i. doublesOf s (pairs (l .pairs) i) 3 21 5) 21
 
-  abbrev departureDoubles : List Float
+  abbrev pub departureDoubles : List Float
   departureDoubles = flat (λ m. doublesOf s (departures s (l .functions) (l .count) (l .departures) m) 4 12 5) 10
 
-  length-critical : length critical ≡ 42
+  pub length-critical : length critical ≡ 42
   length-critical = length-doublesOf s components 2 2 0 21
 
-  length-ideal : length ideal ≡ 231
+  pub length-ideal : length ideal ≡ 231
   length-ideal = length-doublesOf s components 20 11 0 21
 
-  length-terms : length termDoubles ≡ 1008
+  pub length-terms : length termDoubles ≡ 1008
   length-terms = length-rows s (terms s (l .terms)) 5 24 2 21
 
-  length-pairs : length pairDoubles ≡ 2205
+  pub length-pairs : length pairDoubles ≡ 2205
   length-pairs = length-rows s (pairs (l .pairs)) 3 21 5 21
 
-  length-departures : length departureDoubles ≡ 600
+  pub length-departures : length departureDoubles ≡ 600
   length-departures = length-rows s (departures s (l .functions) (l .count) (l .departures)) 4 12 5 10
 
   pub doubles-stored : (d : List Float) {o₁ o₂ o₃ o₄ : List Float} → o₁ ≡ sets (sets d 0 critical) 42 ideal → o₂ ≡ sets o₁ 273 termDoubles
@@ -71,34 +71,34 @@ module _ (s : List ℕ) (l : Layout) where
   unfolding doubles
   length-doubles = simp length-append (rw (length-critical, length-ideal, length-terms, length-pairs, length-departures))
 
-  abbrev counts : List ℕ
+  abbrev pub counts : List ℕ
   counts = bytesOf s components 18 21 2
 
-  abbrev termBytes : List ℕ
+  abbrev pub termBytes : List ℕ
   termBytes = flat (λ i. bytesOf s (terms s (l .terms) i) 3 24 2) 21
 
-  abbrev pairBytes : List ℕ
+  abbrev pub pairBytes : List ℕ
   pairBytes = flat (λ i. bytesOf s (pairs (l .pairs) i) 43 21 1) 21
 
-  abbrev functionBytes : List ℕ
+  abbrev pub functionBytes : List ℕ
   functionBytes = bytesOf s (functions (l .functions) (l .count)) 2 10 2
 
-  abbrev departureBytes : List ℕ
+  abbrev pub departureBytes : List ℕ
   departureBytes = flat (λ m. bytesOf s (departures s (l .functions) (l .count) (l .departures) m) 3 12 1) 10
 
-  length-counts : length counts ≡ 42
+  pub length-counts : length counts ≡ 42
   length-counts = length-bytesOf s components 18 2 0 21
 
-  length-term-bytes : length termBytes ≡ 1008
+  pub length-term-bytes : length termBytes ≡ 1008
   length-term-bytes = length-byte-rows s (terms s (l .terms)) 3 24 2 21
 
-  length-pair-bytes : length pairBytes ≡ 441
+  pub length-pair-bytes : length pairBytes ≡ 441
   length-pair-bytes = length-byte-rows s (pairs (l .pairs)) 43 21 1 21
 
-  length-functions : length functionBytes ≡ 20
+  pub length-functions : length functionBytes ≡ 20
   length-functions = length-bytesOf s (functions (l .functions) (l .count)) 2 2 0 10
 
-  length-departure-bytes : length departureBytes ≡ 120
+  pub length-departure-bytes : length departureBytes ≡ 120
   length-departure-bytes = length-byte-rows s (departures s (l .functions) (l .count) (l .departures)) 3 12 1 10
 
   pub integers-stored : (d : List ℕ) {o₁ o₂ o₃ o₄ o₅ : List ℕ} → o₁ ≡ sets d 0 counts → o₂ ≡ sets o₁ 42 termBytes → o₃ ≡ sets o₂ 1050 pairBytes
