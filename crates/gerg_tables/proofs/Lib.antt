@@ -9,3 +9,5 @@ pub mod Some
 pub mod Cases
 pub mod Lookup
 pub mod Numbers
+pub mod WellFormed
+pub mod Shaped
