@@ -11,3 +11,5 @@ pub mod Lookup
 pub mod Numbers
 pub mod WellFormed
 pub mod Shaped
+pub mod Examples
+pub mod OfFile

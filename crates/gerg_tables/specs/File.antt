@@ -27,22 +27,23 @@ unfoldable pub chain : (ℕ → ℕ → Walk) → ℕ → ℕ → ℕ → Walk
 chain step zero i at = To at
 chain step (suc n) i at = follow (step i at) (chain step n (i + 1))
 
+-- a good record is passed, and a bad one refused at its start
+abbrev pub passed : Bool → ℕ → ℕ → Walk
+passed good size at = pick good (To (at + size)) (Bad at)
+
 -- "Each record is one kind byte and a body whose length the kind fixes": a record of `size` bytes, that begins with its kind and its leading
 -- number and has two counts `counts` bytes past its start, together at most `limit`
 abbrev pub counted : List ℕ → ℕ → ℕ → ℕ → ℕ → ℕ → ℕ → Walk
 counted s kind size counts limit lead at =
-    pick
+    passed
     (leb (at + size) (length s) && eqb (byte s at) kind && eqb (byte s (at + 1)) lead && leb (termCount s (at + counts)) limit)
-    (To (at + size))
-    (Bad at)
+    size
+    at
 
 -- a record of `size` bytes that begins with its kind and two leading numbers
 abbrev pub numbered : List ℕ → ℕ → ℕ → ℕ → ℕ → ℕ → Walk
 numbered s kind size lead number at =
-    pick
-    (leb (at + size) (length s) && eqb (byte s at) kind && eqb (byte s (at + 1)) lead && eqb (byte s (at + 2)) number)
-    (To (at + size))
-    (Bad at)
+    passed (leb (at + size) (length s) && eqb (byte s at) kind && eqb (byte s (at + 1)) lead && eqb (byte s (at + 2)) number) size at
 
 -- "all kpol + kexp terms of each component", or of each departure function: for number i as many as the two counts of its own record say. Those
 -- records begin at `base`, have `stride` bytes each and their counts `counts` bytes past their start
