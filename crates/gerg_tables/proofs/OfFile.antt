@@ -130,3 +130,106 @@ module _ (s : List ℕ) (l : Layout) (e : fileOf s ≡ WellFormed l) where
   departure-byte-at m k h g t =
       byte-at (departures s (l .functions) (l .count) (l .departures) m) 3 k 0 (1511 + (12 * m + (1 * k + 0))) (departureRecord s l m k + 3)
       (there 0 (departuresOf s (l .functions) (l .count) m) k (omega arith) t) (departure-byte s l m k 0 h g (omega arith)) (omega arith)
+
+  -- by name
+  double-named : {p p′ q q′ : ℕ} → p ≡ p′ → q′ ≡ q → getD (tablesOf s .doubles) p′ nan ≡ doubleAt s q′ → getD (tablesOf s .doubles) p nan ≡ doubleAt s q
+  double-named a b n = ap (λ (p : ℕ). getD (tablesOf s .doubles) p nan) a ∙ n ∙ ap (doubleAt s) b
+
+  byte-named : {p p′ q q′ : ℕ} → p ≡ p′ → q′ ≡ q → getD (tablesOf s .integers) p′ 0 ≡ byte s q′ → getD (tablesOf s .integers) p 0 ≡ byte s q
+  byte-named a b n = ap (λ (p : ℕ). getD (tablesOf s .integers) p 0) a ∙ n ∙ ap (byte s) b
+
+  pub tc-is : (i : ℕ) → i < 21 → tc (tablesOf s .doubles) i ≡ doubleAt s (componentRecord i + 2)
+  tc-is i h =
+      double-named (let a : 2 * i ≡ 2 * i + 0 = omega arith in a) (let b : componentRecord i + 2 + 8 * 0 ≡ componentRecord i + 2 = omega arith in b) (critical-at i 0 h (omega arith))
+
+  pub mmiGerg-is : (i : ℕ) → i < 21 → mmiGerg (tablesOf s .doubles) i ≡ doubleAt s (componentRecord i + 10)
+  mmiGerg-is i h =
+      double-named (let a : 2 * i + 1 ≡ 2 * i + 1 = omega arith in a) (let b : componentRecord i + 2 + 8 * 1 ≡ componentRecord i + 10 = omega arith in b) (critical-at i 1 h (omega arith))
+
+  pub n0i-is : (i j : ℕ) → i < 21 → j < 7 → n0i (tablesOf s .doubles) i j ≡ doubleAt s (componentRecord i + 20 + 8 * j)
+  n0i-is i j h g =
+      double-named (let a : 42 + 11 * i + j ≡ 42 + (11 * i + j) = omega arith in a) (let b : componentRecord i + 20 + 8 * j ≡ componentRecord i + 20 + 8 * j = omega arith in b) (ideal-at i j h (omega arith))
+
+  pub th0i-is : (i j : ℕ) → i < 21 → j < 4 → th0i (tablesOf s .doubles) i j ≡ doubleAt s (componentRecord i + 76 + 8 * j)
+  th0i-is i j h g =
+      double-named (let a : 49 + 11 * i + j ≡ 42 + (11 * i + (7 + j)) = omega arith in a) (let b : componentRecord i + 20 + 8 * (7 + j) ≡ componentRecord i + 76 + 8 * j = omega arith in b) (ideal-at i (7 + j) h (omega arith))
+
+  pub kpol-is : (i : ℕ) → i < 21 → kpol (tablesOf s .integers) i ≡ byte s (componentRecord i + 18)
+  kpol-is i h =
+      byte-named (let a : 2 * i ≡ 2 * i + 0 = omega arith in a) (let b : componentRecord i + 18 + 0 ≡ componentRecord i + 18 = omega arith in b) (count-at i 0 h (omega arith))
+
+  pub kexp-is : (i : ℕ) → i < 21 → kexp (tablesOf s .integers) i ≡ byte s (componentRecord i + 19)
+  kexp-is i h =
+      byte-named (let a : 2 * i + 1 ≡ 2 * i + 1 = omega arith in a) (let b : componentRecord i + 18 + 1 ≡ componentRecord i + 19 = omega arith in b) (count-at i 1 h (omega arith))
+
+  pub noik-is : (i k : ℕ) → i < 21 → k < 24 → k < termsOf s i → noik (tablesOf s .doubles) i k ≡ doubleAt s (termRecord s l i k + 5)
+  noik-is i k h g t =
+      double-named (let a : 273 + 48 * i + 2 * k ≡ 273 + (48 * i + (2 * k + 0)) = omega arith in a) (let b : termRecord s l i k + 5 + 8 * 0 ≡ termRecord s l i k + 5 = omega arith in b) (term-at i k 0 h g (omega arith) t)
+
+  pub toik-is : (i k : ℕ) → i < 21 → k < 24 → k < termsOf s i → toik (tablesOf s .doubles) i k ≡ doubleAt s (termRecord s l i k + 13)
+  toik-is i k h g t =
+      double-named (let a : 274 + 48 * i + 2 * k ≡ 273 + (48 * i + (2 * k + 1)) = omega arith in a) (let b : termRecord s l i k + 5 + 8 * 1 ≡ termRecord s l i k + 13 = omega arith in b) (term-at i k 1 h g (omega arith) t)
+
+  pub coik-is : (i k : ℕ) → i < 21 → k < 24 → k < termsOf s i → coik (tablesOf s .integers) i k ≡ byte s (termRecord s l i k + 3)
+  coik-is i k h g t =
+      byte-named (let a : 42 + 48 * i + 2 * k ≡ 42 + (48 * i + (2 * k + 0)) = omega arith in a) (let b : termRecord s l i k + 3 + 0 ≡ termRecord s l i k + 3 = omega arith in b) (term-byte-at i k 0 h g (omega arith) t)
+
+  pub doik-is : (i k : ℕ) → i < 21 → k < 24 → k < termsOf s i → doik (tablesOf s .integers) i k ≡ byte s (termRecord s l i k + 4)
+  doik-is i k h g t =
+      byte-named (let a : 43 + 48 * i + 2 * k ≡ 42 + (48 * i + (2 * k + 1)) = omega arith in a) (let b : termRecord s l i k + 3 + 1 ≡ termRecord s l i k + 4 = omega arith in b) (term-byte-at i k 1 h g (omega arith) t)
+
+  pub btij-is : (i j : ℕ) → i ≤ j → j < 21 → btij (tablesOf s .doubles) i j ≡ doubleAt s (pairRecord l i j + 3)
+  btij-is i j h g =
+      double-named (let a : 1281 + 105 * i + 5 * j ≡ 1281 + (105 * i + (5 * j + 0)) = omega arith in a) (let b : pairRecord l i j + 3 + 8 * 0 ≡ pairRecord l i j + 3 = omega arith in b) (pair-at i j 0 h g (omega arith))
+
+  pub bvij-is : (i j : ℕ) → i ≤ j → j < 21 → bvij (tablesOf s .doubles) i j ≡ doubleAt s (pairRecord l i j + 11)
+  bvij-is i j h g =
+      double-named (let a : 1282 + 105 * i + 5 * j ≡ 1281 + (105 * i + (5 * j + 1)) = omega arith in a) (let b : pairRecord l i j + 3 + 8 * 1 ≡ pairRecord l i j + 11 = omega arith in b) (pair-at i j 1 h g (omega arith))
+
+  pub gtij-is : (i j : ℕ) → i ≤ j → j < 21 → gtij (tablesOf s .doubles) i j ≡ doubleAt s (pairRecord l i j + 19)
+  gtij-is i j h g =
+      double-named (let a : 1283 + 105 * i + 5 * j ≡ 1281 + (105 * i + (5 * j + 2)) = omega arith in a) (let b : pairRecord l i j + 3 + 8 * 2 ≡ pairRecord l i j + 19 = omega arith in b) (pair-at i j 2 h g (omega arith))
+
+  pub gvij-is : (i j : ℕ) → i ≤ j → j < 21 → gvij (tablesOf s .doubles) i j ≡ doubleAt s (pairRecord l i j + 27)
+  gvij-is i j h g =
+      double-named (let a : 1284 + 105 * i + 5 * j ≡ 1281 + (105 * i + (5 * j + 3)) = omega arith in a) (let b : pairRecord l i j + 3 + 8 * 3 ≡ pairRecord l i j + 27 = omega arith in b) (pair-at i j 3 h g (omega arith))
+
+  pub fij-is : (i j : ℕ) → i ≤ j → j < 21 → fij (tablesOf s .doubles) i j ≡ doubleAt s (pairRecord l i j + 35)
+  fij-is i j h g =
+      double-named (let a : 1285 + 105 * i + 5 * j ≡ 1281 + (105 * i + (5 * j + 4)) = omega arith in a) (let b : pairRecord l i j + 3 + 8 * 4 ≡ pairRecord l i j + 35 = omega arith in b) (pair-at i j 4 h g (omega arith))
+
+  pub mNumb-is : (i j : ℕ) → i ≤ j → j < 21 → mNumb (tablesOf s .integers) i j ≡ byte s (pairRecord l i j + 43)
+  mNumb-is i j h g =
+      byte-named (let a : 1050 + 21 * i + j ≡ 1050 + (21 * i + (1 * j + 0)) = omega arith in a) (let b : pairRecord l i j + 43 ≡ pairRecord l i j + 43 = omega arith in b) (pair-byte-at i j h g)
+
+  pub kpolij-is : (m : ℕ) → m < 10 → m < l .count → kpolij (tablesOf s .integers) m ≡ byte s (functionRecord l m + 2)
+  kpolij-is m h t =
+      byte-named (let a : 1491 + 2 * m ≡ 1491 + (2 * m + 0) = omega arith in a) (let b : functionRecord l m + 2 + 0 ≡ functionRecord l m + 2 = omega arith in b) (function-at m 0 h (omega arith) t)
+
+  pub kexpij-is : (m : ℕ) → m < 10 → m < l .count → kexpij (tablesOf s .integers) m ≡ byte s (functionRecord l m + 3)
+  kexpij-is m h t =
+      byte-named (let a : 1492 + 2 * m ≡ 1491 + (2 * m + 1) = omega arith in a) (let b : functionRecord l m + 2 + 1 ≡ functionRecord l m + 3 = omega arith in b) (function-at m 1 h (omega arith) t)
+
+  pub cijk-is : (m k : ℕ) → m < 10 → k < 12 → k < departuresOf s (l .functions) (l .count) m → cijk (tablesOf s .doubles) m k ≡ doubleAt s (departureRecord s l m k + 4)
+  cijk-is m k h g t =
+      double-named (let a : 3486 + 60 * m + 5 * k ≡ 3486 + (60 * m + (5 * k + 0)) = omega arith in a) (let b : departureRecord s l m k + 4 + 8 * 0 ≡ departureRecord s l m k + 4 = omega arith in b) (departure-at m k 0 h g (omega arith) t)
+
+  pub eijk-is : (m k : ℕ) → m < 10 → k < 12 → k < departuresOf s (l .functions) (l .count) m → eijk (tablesOf s .doubles) m k ≡ doubleAt s (departureRecord s l m k + 12)
+  eijk-is m k h g t =
+      double-named (let a : 3487 + 60 * m + 5 * k ≡ 3486 + (60 * m + (5 * k + 1)) = omega arith in a) (let b : departureRecord s l m k + 4 + 8 * 1 ≡ departureRecord s l m k + 12 = omega arith in b) (departure-at m k 1 h g (omega arith) t)
+
+  pub gijk-is : (m k : ℕ) → m < 10 → k < 12 → k < departuresOf s (l .functions) (l .count) m → gijk (tablesOf s .doubles) m k ≡ doubleAt s (departureRecord s l m k + 20)
+  gijk-is m k h g t =
+      double-named (let a : 3488 + 60 * m + 5 * k ≡ 3486 + (60 * m + (5 * k + 2)) = omega arith in a) (let b : departureRecord s l m k + 4 + 8 * 2 ≡ departureRecord s l m k + 20 = omega arith in b) (departure-at m k 2 h g (omega arith) t)
+
+  pub nijk-is : (m k : ℕ) → m < 10 → k < 12 → k < departuresOf s (l .functions) (l .count) m → nijk (tablesOf s .doubles) m k ≡ doubleAt s (departureRecord s l m k + 28)
+  nijk-is m k h g t =
+      double-named (let a : 3489 + 60 * m + 5 * k ≡ 3486 + (60 * m + (5 * k + 3)) = omega arith in a) (let b : departureRecord s l m k + 4 + 8 * 3 ≡ departureRecord s l m k + 28 = omega arith in b) (departure-at m k 3 h g (omega arith) t)
+
+  pub tijk-is : (m k : ℕ) → m < 10 → k < 12 → k < departuresOf s (l .functions) (l .count) m → tijk (tablesOf s .doubles) m k ≡ doubleAt s (departureRecord s l m k + 36)
+  tijk-is m k h g t =
+      double-named (let a : 3490 + 60 * m + 5 * k ≡ 3486 + (60 * m + (5 * k + 4)) = omega arith in a) (let b : departureRecord s l m k + 4 + 8 * 4 ≡ departureRecord s l m k + 36 = omega arith in b) (departure-at m k 4 h g (omega arith) t)
+
+  pub dijk-is : (m k : ℕ) → m < 10 → k < 12 → k < departuresOf s (l .functions) (l .count) m → dijk (tablesOf s .integers) m k ≡ byte s (departureRecord s l m k + 3)
+  dijk-is m k h g t =
+      byte-named (let a : 1511 + 12 * m + k ≡ 1511 + (12 * m + (1 * k + 0)) = omega arith in a) (let b : departureRecord s l m k + 3 ≡ departureRecord s l m k + 3 = omega arith in b) (departure-byte-at m k h g t)
