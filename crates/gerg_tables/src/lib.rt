@@ -1,5 +1,14 @@
 // The coefficient file and its tables.
+ghost use mathlib.Core.Path.{_≡_};
+ghost use mathlib.Core.List.{[], _∷_};
+ghost use Rattle.gerg_tables.specs.Answer as Answers;
+
+mod bytes;
+mod check;
+mod file;
+mod load;
 pub mod named;
+mod records;
 
 // The tables of a coefficient file as two flat arrays.
 pub struct Tables {
@@ -7,4 +16,86 @@ pub struct Tables {
     pub doubles: [f64; 4086],
     // kpol, kexp; coik, doik; mNumb; kpolij, kexpij; dijk
     pub integers: [u8; 1631],
+}
+
+// What a coefficient file is answered with.
+pub enum Answer {
+    // the file's length
+    Accepted(usize),
+    // row 1: the offset of the first bad record, or of the first byte over
+    Refused(usize),
+    // row 2: the cause, 1 to 8
+    Faulty(u8),
+}
+
+// A file's answer, and its tables where that is `Accepted`.
+pub struct TableFile {
+    pub answer: Answer,
+    pub tables: Tables,
+}
+
+impl Answer {
+    // Document 01's number, 0 for an accepted file.
+    pub fn number(self) -> u64
+        ensures { λ r. ⌜ r ≡ Answers.number self ⌝ }
+    {
+        match self {
+            Answer::Accepted(_) => 0,
+            Answer::Refused(_) => 1,
+            Answer::Faulty(_) => 2,
+        }
+    }
+
+    // Document 01's value, the length for an accepted file.
+    pub fn value(self) -> u64
+        ensures { λ r. ⌜ r ≡ Answers.value self ⌝ }
+    {
+        match self {
+            Answer::Accepted(length) => length as u64,
+            Answer::Refused(at) => at as u64,
+            Answer::Faulty(cause) => cause as u64,
+        }
+    }
+}
+
+fn judge(fault: u8, length: usize) -> Answer
+    ensures { λ r. ⌜ r ≡ Answers.judged fault length ⌝ }
+{
+    if fault == 0 {
+        return Answer::Accepted(length);
+    }
+    Answer::Faulty(fault)
+}
+
+// The bytes of a coefficient file, checked and read.
+pub fn read_tables(file: &[u8]) -> TableFile
+    ensures { λ r. ⌜ r ≡ Answers.tableFileOf (now (file .entry)) ⌝ }
+{
+    match file::read_layout(file) {
+        file::File::Malformed(at) => {
+            let doubles = [0.0; 4086];
+            let integers = [0u8; 1631];
+            let tables = Tables { doubles, integers };
+            let answer = Answer::Refused(at);
+            TableFile { answer, tables }
+        }
+        file::File::WellFormed(layout) => {
+            let tables = load::load(file, layout);
+            let fault = check::fault(&tables.doubles, &tables.integers, layout.count);
+            let answer = judge(fault, layout.length);
+            TableFile { answer, tables }
+        }
+    }
+}
+
+// The answer's number and value, for callers in C.
+#[no_mangle]
+pub extern "C" fn gerg_tables_check(file: &[u8], out: &mut [u64; 2])
+    ensures { λ _. ⌜ now (out .exit) ≡ Answers.number (Answers.answerOf (now (file .entry))) ∷ Answers.value (Answers.answerOf (now (file .entry))) ∷ [] ⌝ }
+{
+    let read = read_tables(file);
+    let answer = read.answer;
+    let number = answer.number();
+    let value = answer.value();
+    *out = [number, value];
 }

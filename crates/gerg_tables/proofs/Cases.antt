@@ -1,0 +1,39 @@
+-- The ways through `read_tables`.
+use mathlib.Core.Path.{_≡_, refl, sym, ap, _∙_}
+use mathlib.Core.List.{List}
+use Prim.Native.Nat.{ℕ, zero, suc}
+use lib.ListN.{replicate}
+use lib.Ieee.{Float}
+use Rattle.numerics.specs.Double.{+0}
+use Rattle.gerg_tables.specs.declared.Answer.{Answer}
+use Rattle.gerg_tables.specs.declared.Answer.the-variants.{Accepted, Refused, Faulty}
+use Rattle.gerg_tables.specs.declared.TableFile.{TableFile}
+use Rattle.gerg_tables.specs.declared.Tables.{Tables}
+use Rattle.gerg_tables.specs.declared.file.File.{File}
+use Rattle.gerg_tables.specs.declared.file.File.the-variants.{Malformed, WellFormed}
+use Rattle.gerg_tables.specs.declared.file.Layout.{Layout}
+use Rattle.gerg_tables.specs.File.{fileOf}
+use Rattle.gerg_tables.specs.Load.{loaded, noTables}
+use Rattle.gerg_tables.specs.Check.{faultOf}
+use Rattle.gerg_tables.specs.Answer.{judged, answerAs, answerOf, tablesAs, tablesOf, tableFileOf}
+
+pub accepted : {f : ℕ} (length : ℕ) → f ≡ 0 → Accepted length ≡ judged f length
+accepted length e = ap (λ (f : ℕ). judged f length) (sym e)
+
+pub faulty : (f length : ℕ) → (f ≡ 0 → ⊥) → Faulty f ≡ judged f length
+faulty zero length h = absurd (h refl)
+faulty (suc f) length h = refl
+
+pub malformed : (s : List ℕ) {at : ℕ} {w : File} → w ≡ fileOf s → w ≡ Malformed at
+    → _≡_ {A = TableFile} (record { answer = Refused at; tables = record { doubles = replicate 4086 +0; integers = replicate 1631 0 } }) (tableFileOf s)
+unfolding tableFileOf answerOf tablesOf answerAs tablesAs noTables
+malformed s e q = ap (λ (w : File). record { answer = answerAs s w; tables = tablesAs s w }) (sym q ∙ e)
+
+pub well-formed : (s : List ℕ) {l : Layout} {w : File} {t : Tables} {f : ℕ} {a : Answer} → w ≡ fileOf s → w ≡ WellFormed l → t ≡ loaded s l
+    → f ≡ faultOf (t .doubles) (t .integers) (l .count) → a ≡ judged f (l .length)
+    → _≡_ {A = TableFile} (record { answer = a; tables = t }) (tableFileOf s)
+unfolding tableFileOf answerOf tablesOf answerAs tablesAs loaded
+well-formed s {l} {t = t} e q h g r =
+    ap (λ (a : Answer). record { answer = a; tables = t }) (r ∙ ap (λ (f : ℕ). judged f (l .length)) g)
+    ∙ ap (λ (t : Tables). record { answer = judged (faultOf (t .doubles) (t .integers) (l .count)) (l .length); tables = t }) h
+    ∙ ap (λ (w : File). record { answer = answerAs s w; tables = tablesAs s w }) (sym q ∙ e)

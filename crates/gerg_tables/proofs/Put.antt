@@ -1,0 +1,120 @@
+-- Lists stored into an array one after the other.
+use mathlib.Core.Path.{_≡_, refl, sym, ap, _∙_}
+use mathlib.Core.Bool.{Bool, cond}
+use mathlib.Core.List.{List, [], _∷_, _++_}
+use Prim.Native.Nat.{ℕ, zero, suc, _+_, _*_, _≤_, _<_}
+use native.Mathlib.Numerals.{add-one}
+use native.Mathlib.Nat.{mul-suc, mul-zero, mul-le-mul, mul-le-mul-left}
+use native.Mathlib.Omega.{arith}
+use lib.ListN.{length, set, length-append}
+use lib.Seq.{sets}
+use lib.Ieee.{Float}
+use Rattle.numerics.specs.Double.{+0}
+use Rattle.numerics.specs.Fill.{tabulate, length-tabulate}
+use Rattle.gerg_tables.specs.Bytes.{byte, doubleAt}
+use Rattle.gerg_tables.specs.declared.records.Records.{Records}
+use Rattle.gerg_tables.specs.Load.{flat, present, place, recordDoubles, recordBytes, doublesOf, bytesOf}
+
+-- what stands in a section is near its start
+pub near : {size n : ℕ} → size < 256 → n < 131072 → size * n ≤ 33554432
+near {size} {n} h g = let a : size ≤ 256 = omega arith in let b : n ≤ 131072 = omega arith in mul-le-mul a b
+
+-- record k of `count` has room
+pub room : (per k count : ℕ) → k < count → per * k + per ≤ per * count
+room per k count h = let g : suc k ≤ count = omega arith in omega (arith, mul-le-mul-left per g, mul-suc per k)
+
+-- b stored, and then c right after it
+pub sets-append : {A : Type 0} (b c l : List A) (to : ℕ) → sets (sets l to b) (to + length b) c ≡ sets l to (b ++ c)
+sets-append [] c l to = ap (λ (k : ℕ). sets l k c) (omega arith)
+sets-append (a ∷ b) c l to =
+    ap (λ (k : ℕ). sets (sets (set l to a) (suc to) b) k c) (let e : to + suc (length b) ≡ suc to + length b = omega arith in e)
+    ∙ sets-append b c (set l to a) (suc to)
+
+-- the same for a list stored piece by piece
+pub sets-on : {A : Type 0} (b c l : List A) (to n : ℕ) {o o′ : List A} → length b ≡ n → o ≡ sets l to b → o′ ≡ sets o (to + n) c → o′ ≡ sets l to (b ++ c)
+sets-on b c l to n {o} e i t =
+    t ∙ ap (λ (k : ℕ). sets o (to + k) c) (sym e) ∙ ap (λ (o : List _). sets o (to + length b) c) i ∙ sets-append b c l to
+
+module _ {A : Type 0} (f : ℕ → List A) (w : ℕ) (all : (k : ℕ) → length (f k) ≡ w) where
+  pub length-flat : (n : ℕ) → length (flat f n) ≡ w * n
+  unfolding flat
+  length-flat zero = sym (mul-zero w)
+  length-flat (suc n) = length-append (flat f n) (f n) ∙ (let e = length-flat n in let d = all n in let g = mul-suc w n in omega arith)
+
+  pub flat-on : (n : ℕ) (l : List A) (to : ℕ) {o o′ : List A} → o ≡ sets l to (flat f n) → o′ ≡ sets o (to + w * n) (f n) → o′ ≡ sets l to (flat f (n + 1))
+  unfolding flat
+  flat-on n l to i t = rw (add-one n) (sets-on (flat f n) (f n) l to (w * n) (length-flat n) i t)
+
+pub flat-none : {A : Type 0} (f : ℕ → List A) (l : List A) (to : ℕ) → l ≡ sets l to (flat f 0)
+unfolding flat
+flat-none f l to = refl
+
+tabulate-on : {A : Type 0} (f : ℕ → A) (n : ℕ) (l : List A) (to : ℕ) {o : List A} {v : A} → o ≡ sets l to (tabulate f n) → v ≡ f n
+    → set o (to + n) v ≡ sets l to (tabulate f (n + 1))
+unfolding tabulate
+tabulate-on f n l to {o} i e =
+    rw (add-one n) (sets-on (tabulate f n) (f n ∷ []) l to n (length-tabulate f n) i (ap (λ (v : _). set o (to + n) v) e))
+
+-- numbers of one record, one by one
+module _ (there : Bool) (s : List ℕ) (base offset to : ℕ) where
+  pub no-doubles : (l : List Float) → l ≡ sets l to (recordDoubles there s (base + offset) 0)
+  unfolding recordDoubles tabulate
+  no-doubles l = refl
+
+  pub double-on : (k : ℕ) (l : List Float) {o : List Float} {v : Float} → o ≡ sets l to (recordDoubles there s (base + offset) k)
+      → v ≡ cond there (doubleAt s (base + (offset + 8 * k))) +0 → set o (to + k) v ≡ sets l to (recordDoubles there s (base + offset) (k + 1))
+  unfolding recordDoubles
+  double-on k l i e =
+      tabulate-on (λ k. cond there (doubleAt s (base + offset + 8 * k)) +0) k l to i
+      (e ∙ ap (λ (p : ℕ). cond there (doubleAt s p) +0) (let q : base + (offset + 8 * k) ≡ base + offset + 8 * k = omega arith in q))
+
+  pub no-bytes : (l : List ℕ) → l ≡ sets l to (recordBytes there s (base + offset) 0)
+  unfolding recordBytes tabulate
+  no-bytes l = refl
+
+  pub byte-on : (k : ℕ) (l : List ℕ) {o : List ℕ} {v : ℕ} → o ≡ sets l to (recordBytes there s (base + offset) k)
+      → v ≡ cond there (byte s (base + (offset + k))) 0 → set o (to + k) v ≡ sets l to (recordBytes there s (base + offset) (k + 1))
+  unfolding recordBytes
+  byte-on k l i e =
+      tabulate-on (λ k. cond there (byte s (base + offset + k)) 0) k l to i
+      (e ∙ ap (λ (p : ℕ). cond there (byte s p) 0) (let q : base + (offset + k) ≡ base + offset + k = omega arith in q))
+
+-- record by record
+module _ (s : List ℕ) (r : Records) (offset per to : ℕ) where
+  pub length-record : (k : ℕ) → length (recordDoubles (present r k) s (place r offset k) per) ≡ per
+  unfolding recordDoubles
+  length-record k = length-tabulate _ per
+
+  pub length-byte-record : (k : ℕ) → length (recordBytes (present r k) s (place r offset k) per) ≡ per
+  unfolding recordBytes
+  length-byte-record k = length-tabulate _ per
+
+  pub no-records : (l : List Float) → l ≡ sets l to (doublesOf s r offset 0 per)
+  unfolding doublesOf
+  no-records l = flat-none _ l to
+
+  pub no-byte-records : (l : List ℕ) → l ≡ sets l to (bytesOf s r offset 0 per)
+  unfolding bytesOf
+  no-byte-records l = flat-none _ l to
+
+  pub record-on : (k : ℕ) (l : List Float) {b : Bool} {o o′ : List Float} → o ≡ sets l to (doublesOf s r offset k per) → b ≡ present r k
+      → o′ ≡ sets o (to + per * k) (recordDoubles b s (place r offset k) per) → o′ ≡ sets l to (doublesOf s r offset (k + 1) per)
+  unfolding doublesOf
+  record-on k l {o = o} i e t =
+      flat-on (λ k. recordDoubles (present r k) s (place r offset k) per) per length-record k l to i
+      (t ∙ ap (λ (b : Bool). sets o (to + per * k) (recordDoubles b s (place r offset k) per)) e)
+
+  pub byte-record-on : (k : ℕ) (l : List ℕ) {b : Bool} {o o′ : List ℕ} → o ≡ sets l to (bytesOf s r offset k per) → b ≡ present r k
+      → o′ ≡ sets o (to + per * k) (recordBytes b s (place r offset k) per) → o′ ≡ sets l to (bytesOf s r offset (k + 1) per)
+  unfolding bytesOf
+  byte-record-on k l {o = o} i e t =
+      flat-on (λ k. recordBytes (present r k) s (place r offset k) per) per length-byte-record k l to i
+      (t ∙ ap (λ (b : Bool). sets o (to + per * k) (recordBytes b s (place r offset k) per)) e)
+
+  pub length-doublesOf : (count : ℕ) → length (doublesOf s r offset count per) ≡ per * count
+  unfolding doublesOf
+  length-doublesOf count = length-flat _ per length-record count
+
+  pub length-bytesOf : (count : ℕ) → length (bytesOf s r offset count per) ≡ per * count
+  unfolding bytesOf
+  length-bytesOf count = length-flat _ per length-byte-record count

@@ -1,0 +1,148 @@
+-- The tables of an accepted file have the shape that the layers above require, and each of their numbers is the file's.
+use mathlib.Core.Path.{_≡_, refl, sym, ap, _∙_}
+use mathlib.Core.Bool.{Bool, true, false, not, _&&_, _||_, cond}
+use mathlib.Core.List.{List}
+use Prim.Native.Nat.{ℕ, zero, suc, _+_, _-_, _*_, _≤_, _<_}
+use native.Mathlib.Omega.{arith}
+use borrow.Author.Tests.{lt-ltb, le-ltb, le-leb, ltb-true, ltb-false, eqb-false, ltb-true}
+use lib.Dec.{leb, ltb, eqb}
+use lib.ListN.{length, getD}
+use Rattle.gerg_tables.specs.declared.Answer.{Answer}
+use Rattle.gerg_tables.specs.declared.Answer.the-variants.{Accepted, Refused, Faulty}
+use Rattle.gerg_tables.specs.declared.Tables.{Tables}
+use Rattle.gerg_tables.specs.declared.file.File.{File}
+use Rattle.gerg_tables.specs.declared.file.File.the-variants.{Malformed, WellFormed}
+use Rattle.gerg_tables.specs.declared.file.Layout.{Layout}
+use Rattle.gerg_tables.specs.Bytes.{byte, termCount}
+use Rattle.gerg_tables.specs.Tables.{Shaped, kpol, kexp, mNumb, kpolij, kexpij}
+use Rattle.gerg_tables.specs.File.{fileOf}
+use Rattle.gerg_tables.specs.Load.{present, place, components, functions, doubles, integers, loaded}
+use Rattle.gerg_tables.specs.Check.{some, someFrom, orElse, first, badNumber, someBadNumber, numberFault, componentFault, faultOf}
+use Rattle.gerg_tables.specs.Answer.{judged, answerAs, answerOf, tablesAs, tablesOf}
+use Rattle.gerg_tables.proofs.WellFormed.{terms-limit, count-limit, departures-limit, length-is}
+use Rattle.gerg_tables.proofs.Numbers.{fileByte, count-number, function-byte}
+
+-- a search that found nothing
+or-none : (a b : Bool) → (a || b) ≡ false → (a ≡ false) × (b ≡ false)
+or-none false b e = (refl, e)
+or-none true b e = let z : _≡_ {A = ℕ} 0 1 = cc in absurd (omega arith)
+
+none-of : (f : ℕ → Bool) (n a : ℕ) → some f n a ≡ false → (k : ℕ) → k < n → f (a + k) ≡ false
+unfolding some
+none-of f zero a e k h = absurd (omega arith)
+none-of f (suc n) a e zero h = let q : a + 0 ≡ a = omega arith in rw q (or-none (f a) (some f n (a + 1)) e .0)
+none-of f (suc n) a e (suc k) h =
+    let q : a + suc k ≡ a + 1 + k = omega arith in rw q (none-of f n (a + 1) (or-none (f a) (some f n (a + 1)) e .1) k (omega arith))
+
+none-from : (f : ℕ → Bool) (a : ℕ) → someFrom f a ≡ false → (j : ℕ) → a ≤ j → j < 21 → f j ≡ false
+none-from f a e j h g =
+    let q : a + (j - a) ≡ j = omega arith in rw q at (none-of f (21 - a) a e (j - a) (omega arith))
+
+-- no fault
+no-else : (a b : ℕ) → orElse a b ≡ 0 → b ≡ 0
+no-else zero b e = e
+no-else (suc a) b e = absurd (omega arith)
+
+no-eight : (b : Bool) → _≡_ {A = ℕ} (cond b 8 0) 0 → b ≡ false
+no-eight true e = absurd (omega arith)
+no-eight false e = refl
+
+sound-number : (m count : ℕ) → (ltb m 128 && (eqb m 0 || ltb count m)) ≡ false → m < 128 → (0 < m) × (m ≤ count)
+sound-number m count e h =
+    let q : (eqb m 0 || ltb count m) ≡ false = rw (lt-ltb m 128 h) at e in
+    let o = or-none (eqb m 0) (ltb count m) q in
+    let z = eqb-false m 0 (o .0) in
+    (positive m z, ltb-false count m (o .1))
+  where
+    positive : (m : ℕ) → (m ≡ 0 → ⊥) → 0 < m
+    positive zero z = absurd (z refl)
+    positive (suc m) z = omega arith
+
+judged-accepted : (f length n : ℕ) → judged f length ≡ Accepted n → (f ≡ 0) × (n ≡ length)
+judged-accepted zero length n e = (refl, cc)
+judged-accepted (suc f) length n e = let z : _≡_ {A = ℕ} 0 1 = cc in absurd (omega arith)
+
+module _ (s : List ℕ) (l : Layout) (e : fileOf s ≡ WellFormed l) where
+  -- the counts of a component are those of its record
+  count-byte : (i c : ℕ) → i < 21 → c < 2 → getD (integers s l) (2 * i + c) 0 ≡ byte s (41 + 108 * i + 18 + c)
+  unfolding components
+  count-byte i c h g =
+      count-number s l i c h g
+      ∙ rw (le-leb 0 i (omega arith), lt-ltb i 21 h) (ap (byte s) (let q : 41 + (18 + 108 * (0 + i)) + c ≡ 41 + 108 * i + 18 + c = omega arith in q))
+
+  terms-shaped : (i : ℕ) → i < 21 → kpol (integers s l) i + kexp (integers s l) i ≤ 24
+  terms-shaped i h =
+      let a = count-byte i 0 h (omega arith) in
+      let b = count-byte i 1 h (omega arith) in
+      let t = terms-limit s l e i h in
+      let u : getD (integers s l) (2 * i) 0 ≡ byte s (41 + 108 * i + 18) =
+      ap (λ (p : ℕ). getD (integers s l) p 0) (let q : 2 * i ≡ 2 * i + 0 = omega arith in q) ∙ a
+      ∙ ap (byte s) (let q : 41 + 108 * i + 18 + 0 ≡ 41 + 108 * i + 18 = omega arith in q) in
+      omega arith
+
+  function-count : (m c : ℕ) → m < 10 → c < 2 → m < l .count → getD (integers s l) (1491 + (2 * m + c)) 0 ≡ byte s (l .functions + 4 * m + 2 + c)
+  unfolding functions
+  function-count m c h g k =
+      function-byte s l m c h g
+      ∙ rw (le-leb 0 m (omega arith), lt-ltb m (l .count) k)
+      (ap (byte s) (let q : l .functions + (2 + 4 * (0 + m)) + c ≡ l .functions + 4 * m + 2 + c = omega arith in q))
+
+  no-function : (m c : ℕ) → m < 10 → c < 2 → l .count ≤ m → getD (integers s l) (1491 + (2 * m + c)) 0 ≡ 0
+  unfolding functions
+  no-function m c h g k = function-byte s l m c h g ∙ rw (le-leb 0 m (omega arith), le-ltb m (l .count) k)
+
+  first-count : (m : ℕ) → kpolij (integers s l) m ≡ getD (integers s l) (1491 + (2 * m + 0)) 0
+  first-count m = ap (λ (p : ℕ). getD (integers s l) p 0) (let q : 1491 + 2 * m ≡ 1491 + (2 * m + 0) = omega arith in q)
+
+  second-count : (m : ℕ) → kexpij (integers s l) m ≡ getD (integers s l) (1491 + (2 * m + 1)) 0
+  second-count m = ap (λ (p : ℕ). getD (integers s l) p 0) (let q : 1492 + 2 * m ≡ 1491 + (2 * m + 1) = omega arith in q)
+
+  departures-as : (m : ℕ) → m < 10 → (b : Bool) → ltb m (l .count) ≡ b → kpolij (integers s l) m + kexpij (integers s l) m ≤ 12
+  departures-as m h true t =
+      let k = ltb-true m (l .count) t in
+      let a = function-count m 0 h (omega arith) k in
+      let b = function-count m 1 h (omega arith) k in
+      let d = departures-limit s l e m k in
+      let v : byte s (l .functions + 4 * m + 2 + 0) ≡ byte s (l .functions + 4 * m + 2) =
+      ap (byte s) (let q : l .functions + 4 * m + 2 + 0 ≡ l .functions + 4 * m + 2 = omega arith in q) in
+      omega (arith, first-count m, second-count m)
+  departures-as m h false t =
+      let k = ltb-false m (l .count) t in
+      let a = no-function m 0 h (omega arith) k in
+      let b = no-function m 1 h (omega arith) k in
+      omega (arith, first-count m, second-count m)
+
+  departures-shaped : (m : ℕ) → m < 10 → kpolij (integers s l) m + kexpij (integers s l) m ≤ 12
+  departures-shaped m h = departures-as m h (ltb m (l .count)) refl
+
+  numbers-shaped : faultOf (doubles s l) (integers s l) (l .count) ≡ 0 → (i j : ℕ) → i < j → j < 21 → mNumb (integers s l) i j < 128
+      → (0 < mNumb (integers s l) i j) × (mNumb (integers s l) i j ≤ 10)
+  unfolding faultOf someBadNumber
+  numbers-shaped f i j h g k =
+      let eight = no-eight (someBadNumber (integers s l) (l .count))
+      (no-else (first (componentFault (doubles s l)) 21 0) _ (no-else (first (numberFault (doubles s l)) 5 0) _ f)) in
+      let row = none-from (λ i. someFrom (badNumber (integers s l) (l .count) i) (i + 1)) 0 eight i (omega arith) (omega arith) in
+      let b = none-from (badNumber (integers s l) (l .count) i) (i + 1) row j (omega arith) g in
+      let r = sound-number (mNumb (integers s l) i j) (l .count) b k in
+      let t = count-limit s l e in
+      (r .0, omega arith)
+
+  pub well-formed-shaped : faultOf (doubles s l) (integers s l) (l .count) ≡ 0 → Shaped (loaded s l)
+  unfolding loaded
+  well-formed-shaped f = record { terms = terms-shaped; departures = departures-shaped; numbers = numbers-shaped f }
+
+shaped-as : (s : List ℕ) (w : File) (n : ℕ) → fileOf s ≡ w → answerAs s w ≡ Accepted n → Shaped (tablesAs s w) × (n ≡ length s)
+unfolding answerAs tablesAs
+shaped-as s (Malformed at) n e a = let z : _≡_ {A = ℕ} 0 1 = cc in absurd (omega arith)
+shaped-as s (WellFormed l) n e a =
+    let j = judged-accepted (faultOf (doubles s l) (integers s l) (l .count)) (l .length) n a in
+    (well-formed-shaped s l e (j .0), j .1 ∙ length-is s l e)
+
+-- an accepted file's tables are shaped, and its value is the file's length
+pub accepted-shaped : (s : List ℕ) (n : ℕ) → answerOf s ≡ Accepted n → Shaped (tablesOf s)
+unfolding answerOf tablesOf
+accepted-shaped s n a = shaped-as s (fileOf s) n refl a .0
+
+pub accepted-length : (s : List ℕ) (n : ℕ) → answerOf s ≡ Accepted n → n ≡ length s
+unfolding answerOf tablesOf
+accepted-length s n a = shaped-as s (fileOf s) n refl a .1

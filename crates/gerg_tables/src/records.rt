@@ -1,0 +1,152 @@
+// Numbers of a row of records, stored into the arrays of the tables. A record that the file has not stores zeros.
+ghost use mathlib.Core.Path.{_≡_};
+ghost use mathlib.Core.Bool.{cond};
+ghost use Prim.Native.Nat.{_+_, _*_, _^_, _≤_, _<_};
+ghost use lib.Seq.{sets};
+ghost use Rattle.numerics.specs.Double.{+0};
+ghost use Rattle.gerg_tables.specs.Bytes.{byte, doubleAt};
+ghost use Rattle.gerg_tables.specs.Load.{present, recordDoubles, recordBytes, doublesOf, bytesOf};
+use crate::Tables;
+use crate::bytes::byte_at;
+use crate::bytes::double_at;
+use crate::bytes::term_count;
+use crate::file::Layout;
+
+// Records of one size in a row, of which `before` stand before record 0 in their section, which begins at `base`. The file has those from `first` to `end` - 1.
+pub struct Records {
+    pub base: usize,
+    pub size: usize,
+    pub before: usize,
+    pub first: usize,
+    pub end: usize,
+}
+
+impl Records {
+    // Whether the file has record k.
+    fn present(self, k: usize) -> bool
+        ensures { λ r. ⌜ r ≡ present self k ⌝ }
+    {
+        if self.first <= k { k < self.end } else { false }
+    }
+}
+
+fn double_or_zero(there: bool, s: &[u8], base: usize, offset: usize) -> f64
+    requires { ⌜ offset < 2 ^ 32 ⌝ }
+    ensures { λ r. ⌜ r ≡ cond there (doubleAt (now (s .entry)) (base + offset)) +0 ⌝ }
+{
+    if there {
+        double_at(s, base, offset)
+    } else {
+        0.0
+    }
+}
+
+fn byte_or_zero(there: bool, s: &[u8], base: usize, offset: usize) -> u8
+    requires { ⌜ offset < 2 ^ 32 ⌝ }
+    ensures { λ r. ⌜ r ≡ cond there (byte (now (s .entry)) (base + offset)) 0 ⌝ }
+{
+    if there {
+        if base < s.len() {
+            return byte_at(s, base + offset) as u8;
+        }
+    }
+    0
+}
+
+// n doubles in a row, stored from `to` on.
+fn put_doubles(
+    there: bool,
+    s: &[u8],
+    base: usize,
+    offset: usize,
+    n: usize,
+    to: usize,
+    out: &mut [f64; 4086],
+)
+    requires { ⌜ (offset < 2 ^ 31) × (to + n ≤ 4086) ⌝ }
+    ensures { λ _. ⌜ now (out .exit) ≡ sets (now (out .entry)) to (recordDoubles there (now (s .entry)) (base + offset) n) ⌝ }
+{
+    let mut k: usize = 0;
+    while k < n {
+        out[to + k] = double_or_zero(there, s, base, offset + 8 * k);
+        k += 1;
+    }
+}
+
+// n bytes in a row, stored from `to` on.
+fn put_bytes(
+    there: bool,
+    s: &[u8],
+    base: usize,
+    offset: usize,
+    n: usize,
+    to: usize,
+    out: &mut [u8; 1631],
+)
+    requires { ⌜ (offset < 2 ^ 31) × (to + n ≤ 1631) ⌝ }
+    ensures { λ _. ⌜ now (out .exit) ≡ sets (now (out .entry)) to (recordBytes there (now (s .entry)) (base + offset) n) ⌝ }
+{
+    let mut k: usize = 0;
+    while k < n {
+        out[to + k] = byte_or_zero(there, s, base, offset + k);
+        k += 1;
+    }
+}
+
+// `per` doubles of each of the records 0 to count - 1, `offset` bytes into it, stored from `to` on.
+pub fn put_record_doubles(
+    s: &[u8],
+    r: Records,
+    offset: usize,
+    count: usize,
+    per: usize,
+    to: usize,
+    out: &mut [f64; 4086],
+)
+    requires { ⌜ (r .size < 2 ^ 8) × ((r .before < 2 ^ 16) × ((offset < 2 ^ 8) × ((count < 2 ^ 8) × (to + per * count ≤ 4086)))) ⌝ }
+    ensures { λ _. ⌜ now (out .exit) ≡ sets (now (out .entry)) to (doublesOf (now (s .entry)) r offset count per) ⌝ }
+{
+    let mut k: usize = 0;
+    while k < count {
+        let there = r.present(k);
+        put_doubles(
+            there,
+            s,
+            r.base,
+            offset + r.size * (r.before + k),
+            per,
+            to + per * k,
+            out,
+        );
+        k += 1;
+    }
+}
+
+// `per` bytes of each of the records 0 to count - 1, `offset` bytes into it, stored from `to` on.
+pub fn put_record_bytes(
+    s: &[u8],
+    r: Records,
+    offset: usize,
+    count: usize,
+    per: usize,
+    to: usize,
+    out: &mut [u8; 1631],
+)
+    requires { ⌜ (r .size < 2 ^ 8) × ((r .before < 2 ^ 16) × ((offset < 2 ^ 8) × ((count < 2 ^ 8) × (to + per * count ≤ 1631)))) ⌝ }
+    ensures { λ _. ⌜ now (out .exit) ≡ sets (now (out .entry)) to (bytesOf (now (s .entry)) r offset count per) ⌝ }
+{
+    let mut k: usize = 0;
+    while k < count {
+        let there = r.present(k);
+        put_bytes(
+            there,
+            s,
+            r.base,
+            offset + r.size * (r.before + k),
+            per,
+            to + per * k,
+            out,
+        );
+        k += 1;
+    }
+}
