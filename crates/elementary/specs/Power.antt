@@ -5,7 +5,7 @@ use Prim.Native.Nat.{ℕ, zero, suc, _-_, _*_, _%_, _/_, _^_, _<_}
 use native.Mathlib.Omega.{arith}
 use native.Mathlib.Nat.{pow-suc}
 use lib.Dec.{eqb, ltb}
-use lib.Ieee.{Float, nan, lt, le, eq}
+use lib.Ieee.{Float, nan, binary64, lt, le, eq, ofInt}
 use lib.IntN.{ℤ, pos, negsuc}
 use Rattle.numerics.specs.Double.{_⊗_, _⊘_, +0, one, bits, pick}
 use Rattle.elementary.specs.Exp.{expOf}
@@ -40,6 +40,13 @@ powiOf x (negsuc n) = one ⊘ powerOf x (suc n)
 -- a byte as a signed number, "those marked s signed"
 unfoldable pub signedOf : ℕ → ℤ
 signedOf b = pick (ltb b 128) (pos b) (negsuc (255 - b))
+
+-- x to that number, and that number as a double
+abbrev pub powiByteOf : Float → ℕ → Float
+powiByteOf x b = powiOf x (signedOf b)
+
+abbrev pub signedDoubleOf : ℕ → Float
+signedDoubleOf b = ofInt binary64 (signedOf b)
 
 -- no digit is left: nothing more happens to r
 pub power-ends : (k : ℕ) (r b : Float) → powerFrom k r b 0 ≡ r

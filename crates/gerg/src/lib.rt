@@ -1,5 +1,15 @@
 // GERG-2008: the mixture model, its Helmholtz derivatives and properties.
+pub mod composition;
+pub mod departure;
 pub mod derivatives;
+pub mod evaluate;
+pub mod fugacity;
+pub mod helmholtz;
+pub mod ideal;
+pub mod isotherm;
+pub mod mixture;
+pub mod powers;
+pub mod pure;
 
 // A mixture of fixed composition, between the layers. Its reducing gradients, two rows of 21 numbers, are passed beside it.
 pub struct GergModel {

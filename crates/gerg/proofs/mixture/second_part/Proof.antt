@@ -1,0 +1,12 @@
+-- `gerg::mixture::second_part` meets its contract. Assumes nothing.
+use mathlib.Core.Path.{refl}
+use Rattle.gerg.specs.Mixture.{secondPart}
+use Rattle.gerg.proofs.mixture.second_part.Statement.{statement}
+use Rattle.gerg.proofs.mixture.second_part.Tie as tie
+
+returns : tie.Need-returns
+unfolding secondPart
+returns c = refl
+
+pub second-part-spec : {M : Type 1} → statement M
+second-part-spec = tie.close (tie.spec returns)
