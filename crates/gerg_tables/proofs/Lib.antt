@@ -13,3 +13,4 @@ pub mod WellFormed
 pub mod Shaped
 pub mod Examples
 pub mod OfFile
+pub mod Places
