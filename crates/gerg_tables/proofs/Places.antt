@@ -68,3 +68,75 @@ module _ (step : ℕ → ℕ → Walk) (size : ℕ → ℕ) (sized : (i at p : �
       let b : i + suc k ≡ i + 1 + k = omega arith in
       let a : at + sum (λ h. size (i + h)) (suc k) ≡ place (step i at) + sum (λ h. size (i + 1 + h)) k = omega arith in
       rw (a, b) (chain-at n (i + 1) (place (step i at)) p (q .1) k (omega arith))
+
+-- a record with two leading numbers that was passed
+abbrev numberedTest : List ℕ → ℕ → ℕ → ℕ → ℕ → ℕ → Bool
+numberedTest s kind size lead number at =
+    leb (at + size) (length s) && eqb (byte s at) kind && eqb (byte s (at + 1)) lead && eqb (byte s (at + 2)) number
+
+pub numbered-size : (s : List ℕ) (kind size lead number at p : ℕ) → numbered s kind size lead number at ≡ To p → p ≡ at + size
+numbered-size s kind size lead number at p e = pick-to (numberedTest s kind size lead number at) (at + size) at p e .1
+
+and-left : (a b : Bool) → (a && b) ≡ true → a ≡ true
+and-left true b e = refl
+and-left false b e = e
+
+-- "Records stand by kind, then by their leading numbers": a record of this kind and with these numbers begins at `at`
+pub record Stands (s : List ℕ) (kind lead number at : ℕ) : Type 0 where
+  pub kind-is : byte s at ≡ kind
+  pub lead-is : byte s (at + 1) ≡ lead
+  pub number-is : byte s (at + 2) ≡ number
+
+pub numbered-stands : (s : List ℕ) (kind size lead number at p : ℕ) → numbered s kind size lead number at ≡ To p → Stands s kind lead number at
+numbered-stands s kind size lead number at p e =
+    let a = leb (at + size) (length s) in
+    let b = eqb (byte s at) kind in
+    let c = eqb (byte s (at + 1)) lead in
+    let d = eqb (byte s (at + 2)) number in
+    let t = pick-to (a && b && c && d) (at + size) at p e .0 in
+    record {
+      kind-is = eqb-true _ _ (and-right a b (and-left (a && b) c (and-left (a && b && c) d t)));
+      lead-is = eqb-true _ _ (and-right (a && b) c (and-left (a && b && c) d t));
+      number-is = eqb-true _ _ (and-right (a && b && c) d t)
+    }
+
+sum-one : (c n : ℕ) → sum (λ h. c) n ≡ c * n
+unfolding sum
+sum-one c zero = sym (mul-zero c)
+sum-one c (suc n) = let a = sum-one c n in omega (arith, mul-suc c n)
+
+pub run-end : (s : List ℕ) (kind size lead n first at p : ℕ) → chain (numbered s kind size lead) n first at ≡ To p → p ≡ at + size * n
+run-end s kind size lead n first at p e =
+    chain-end (numbered s kind size lead) (λ h. size) (λ i at p g. numbered-size s kind size lead i at p g) n first at p e
+    ∙ ap (λ (m : ℕ). at + m) (sum-one size n)
+
+-- the terms of several components or departure functions
+module _ (s : List ℕ) (kind size base counts stride : ℕ) where
+  abbrev ofNumber : ℕ → ℕ
+  ofNumber h = termCount s (base + (counts + stride * h))
+
+  group-size : (i at p : ℕ) → group s kind size base counts stride i at ≡ To p → p ≡ at + size * ofNumber (i - 1)
+  group-size i at p e = run-end s kind size i (ofNumber (i - 1)) 1 at p e
+
+  before : (n : ℕ) → sum (λ h. size * ofNumber (1 + h - 1)) n ≡ size * sum ofNumber n
+  before n =
+      sum-scale size (λ h. size * ofNumber (1 + h - 1)) ofNumber
+      (λ h. ap (λ (j : ℕ). size * ofNumber j) (let q : 1 + h - 1 ≡ h = omega arith in q)) n
+
+  pub groups-end : (n at p : ℕ) → chain (group s kind size base counts stride) n 1 at ≡ To p → p ≡ at + size * sum ofNumber n
+  groups-end n at p e =
+      chain-end (group s kind size base counts stride) (λ i. size * ofNumber (i - 1)) group-size n 1 at p e
+      ∙ ap (λ (m : ℕ). at + m) (before n)
+
+  pub groups-stand : (n at p : ℕ) → chain (group s kind size base counts stride) n 1 at ≡ To p → (i k : ℕ) → i < n → k < ofNumber i
+      → Stands s kind (1 + i) (1 + k) (at + size * sum ofNumber i + size * k)
+  groups-stand n at p e i k h g =
+      let row = chain-at (group s kind size base counts stride) (λ i. size * ofNumber (i - 1)) group-size n 1 at p e i h in
+      let q : 1 + i - 1 ≡ i = omega arith in
+      let here : at + sum (λ h. size * ofNumber (1 + h - 1)) i ≡ at + size * sum ofNumber i = ap (λ (m : ℕ). at + m) (before i) in
+      let w : (m : ℕ) → m ≡ at + size * sum ofNumber i → (j : ℕ) → j ≡ i → (p : ℕ)
+      → chain (numbered s kind size (1 + i)) (ofNumber j) 1 m ≡ To p → chain (numbered s kind size (1 + i)) (ofNumber i) 1 (at + size * sum ofNumber i) ≡ To p
+      = λ m x j y p c. rw (x, y) at c in
+      numbered-stands s kind size (1 + i) (1 + k) (at + size * sum ofNumber i + size * k) _
+      (chain-step (numbered s kind size (1 + i)) size (λ i at p g. numbered-size s kind size _ i at p g) (ofNumber i) 1 (at + size * sum ofNumber i) _
+      (w (at + sum (λ h. size * ofNumber (1 + h - 1)) i) here (1 + i - 1) q _ row) k g)

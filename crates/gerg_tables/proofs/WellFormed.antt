@@ -15,7 +15,7 @@ use Rattle.gerg_tables.specs.declared.file.File.{File}
 use Rattle.gerg_tables.specs.declared.file.File.the-variants.{Malformed, WellFormed}
 use Rattle.gerg_tables.specs.declared.file.Layout.{Layout}
 use Rattle.gerg_tables.specs.Bytes.{byte, termCount}
-use Rattle.gerg_tables.specs.File.{follow, place, chain, counted, functions, sameAt, revision, afterRevision, afterComponents, afterTerms, afterPairs, functionCount, afterFunctions, afterDepartures, atEnd, verdict, fileOf}
+use Rattle.gerg_tables.specs.File.{follow, place, chain, counted, group, pairRow, functions, sameAt, revision, afterRevision, afterComponents, afterTerms, afterPairs, functionCount, afterFunctions, afterDepartures, atEnd, verdict, fileOf}
 
 -- a walk that came through: so did each of its parts
 pub follow-to : (w : Walk) (f : ℕ → Walk) (p : ℕ) → follow w f ≡ To p → (w ≡ To (place w)) × (f (place w) ≡ To p)
@@ -150,3 +150,45 @@ module _ (s : List ℕ) (l : Layout) (e : fileOf s ≡ WellFormed l) where
   departures-limit m h =
       counted-limit s 5 4 2 12 (1 + m) (l .functions + 4 * m) _
       (chain-step (counted s 5 4 2 12) 4 (counted-size s 5 4 2 12) (l .count) 1 (l .functions) _ (through _ functions-end) m h)
+
+  terms-at : place (afterComponents s) ≡ l .terms
+  terms-at = ap (λ (l : Layout). l .terms) (whole .1)
+
+  pairs-at : place (afterTerms s) ≡ l .pairs
+  pairs-at = ap (λ (l : Layout). l .pairs) (whole .1)
+
+  departures-at : place (afterFunctions s) ≡ l .departures
+  departures-at = ap (λ (l : Layout). l .departures) (whole .1)
+
+  end-at : place (afterDepartures s) ≡ l .length
+  end-at =
+      sym (pick-to (eqb (place (afterDepartures s)) (length s)) (place (afterDepartures s)) (place (afterDepartures s)) (l .length)
+      (follow-to (afterDepartures s) (atEnd s) (l .length) (whole .0) .1) .1)
+
+  -- the sections, from where each begins to where the next does
+  section : (w : Walk) (f : ℕ → Walk) (a b p : ℕ) → follow w f ≡ To p → place w ≡ a → p ≡ b → f a ≡ To b
+  section w f a b p g x y = ap f (sym x) ∙ follow-to w f p g .1 ∙ ap To y
+
+  pub components-walk : chain (counted s 2 108 18 24) 21 1 41 ≡ To (l .terms)
+  unfolding afterComponents
+  components-walk = section (afterRevision s) (chain (counted s 2 108 18 24) 21 1) 41 (l .terms) (place (afterComponents s)) components-end components-at terms-at
+
+  pub terms-walk : chain (group s 3 21 41 18 108) 21 1 (l .terms) ≡ To (l .pairs)
+  unfolding afterTerms
+  terms-walk = section (afterComponents s) (chain (group s 3 21 41 18 108) 21 1) (l .terms) (l .pairs) (place (afterTerms s)) terms-end terms-at pairs-at
+
+  pub pairs-walk : chain (pairRow s) 21 1 (l .pairs) ≡ To (l .functions)
+  unfolding afterPairs
+  pairs-walk = section (afterTerms s) (chain (pairRow s) 21 1) (l .pairs) (l .functions) (place (afterPairs s)) pairs-end pairs-at functions-at
+
+  pub functions-walk : chain (counted s 5 4 2 12) (l .count) 1 (l .functions) ≡ To (l .departures)
+  unfolding afterFunctions
+  functions-walk = through (place (afterFunctions s)) functions-end ∙ ap To departures-at
+
+  last : (p : ℕ) → follow (afterFunctions s) (chain (group s 6 44 (place (afterPairs s)) 2 4) (functionCount s) 1) ≡ To p
+      → chain (group s 6 44 (l .functions) 2 4) (l .count) 1 (l .departures) ≡ To p
+  last p g = rw (departures-at, functions-at, count-is) at (follow-to (afterFunctions s) (chain (group s 6 44 (place (afterPairs s)) 2 4) (functionCount s) 1) p g .1)
+
+  pub departures-walk : chain (group s 6 44 (l .functions) 2 4) (l .count) 1 (l .departures) ≡ To (l .length)
+  unfolding afterDepartures
+  departures-walk = last (place (afterDepartures s)) departures-end ∙ ap To end-at
