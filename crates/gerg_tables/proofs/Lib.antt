@@ -14,3 +14,4 @@ pub mod Shaped
 pub mod Examples
 pub mod OfFile
 pub mod Places
+pub mod Standing

@@ -97,7 +97,7 @@ numbered-stands s kind size lead number at p e =
     record {
       kind-is = eqb-true _ _ (and-right a b (and-left (a && b) c (and-left (a && b && c) d t)));
       lead-is = eqb-true _ _ (and-right (a && b) c (and-left (a && b && c) d t));
-      number-is = eqb-true _ _ (and-right (a && b && c) d t)
+      number-is = eqb-true _ _ (and-right (a && b && c) d t);
     }
 
 sum-one : (c n : ℕ) → sum (λ h. c) n ≡ c * n
