@@ -37,3 +37,12 @@ well-formed s {l} {t = t} e q h g r =
     ap (λ (a : Answer). record { answer = a; tables = t }) (r ∙ ap (λ (f : ℕ). judged f (l .length)) g)
     ∙ ap (λ (t : Tables). record { answer = judged (faultOf (t .doubles) (t .integers) (l .count)) (l .length); tables = t }) h
     ∙ ap (λ (w : File). record { answer = answerAs s w; tables = tablesAs s w }) (sym q ∙ e)
+
+-- what a caller of `read_tables` has of its result
+pub read-answer : (s : List ℕ) {r : TableFile} → r ≡ tableFileOf s → r .answer ≡ answerOf s
+unfolding tableFileOf
+read-answer s e = ap (λ (r : TableFile). r .answer) e
+
+pub read-tables-are : (s : List ℕ) {r : TableFile} → r ≡ tableFileOf s → r .tables ≡ tablesOf s
+unfolding tableFileOf
+read-tables-are s e = ap (λ (r : TableFile). r .tables) e

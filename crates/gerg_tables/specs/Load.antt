@@ -1,5 +1,5 @@
 -- The tables of an accepted file. Components, terms and departure functions are counted from 0 here.
-use mathlib.Core.Bool.{Bool, true, false, _&&_, cond}
+use mathlib.Core.Bool.{Bool, _&&_, cond}
 use mathlib.Core.List.{List, [], _++_}
 use Prim.Native.Nat.{ℕ, zero, suc, _+_, _-_, _*_}
 use lib.Dec.{leb, ltb}
@@ -56,7 +56,8 @@ termsOf s i = termCount s (41 + (18 + 108 * i))
 unfoldable pub terms : List ℕ → ℕ → ℕ → Records
 terms s from i = record { base = from; size = 21; before = sum (termsOf s) i; first = 0; end = termsOf s i }
 
--- the pairs i ≤ j of component i, kind 4: rows before it have 21, 20, .. pairs, and j counts from 0 in each row
+-- the pairs i ≤ j of component i, kind 4. The rows before it have 21, 20, .. pairs; its own begins with the pair i, i, so that a record for j = 0 would stand
+-- i places before that: after 20 + 19 + .. records
 unfoldable pub pairs : ℕ → ℕ → Records
 pairs from i = record { base = from; size = 44; before = sum (λ h. 20 - h) i; first = i; end = 21 }
 

@@ -28,7 +28,7 @@ pub enum Answer {
     Faulty(u8),
 }
 
-// A file's answer, and its tables where that is `Accepted`.
+// A file's answer and its tables, which are zeros where the file is `Refused`.
 pub struct TableFile {
     pub answer: Answer,
     pub tables: Tables,
