@@ -15,3 +15,4 @@ pub mod IsothermLaws
 pub mod IsothermReads
 pub mod Evaluate
 pub mod HelmholtzCases
+pub mod EvaluateLaws

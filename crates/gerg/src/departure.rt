@@ -1,6 +1,6 @@
 // The departure terms of a component's pairs with the later components.
 use crate::derivatives::GergDerivatives;
-use crate::helmholtz::wide;
+use crate::mixture::wide;
 use crate::powers;
 use elementary::exp;
 use elementary::power;

@@ -6,12 +6,12 @@ use crate::departure;
 use crate::derivatives::GergDerivatives;
 use crate::ideal;
 use crate::isotherm;
+use crate::mixture::is_finite;
 use crate::powers;
 use crate::pure;
 use elementary::ln;
 ghost use mathlib.Core.Path.{_≡_};
 ghost use Prim.Native.Nat.{_<_};
-ghost use lib.Ieee.Scale.{finite};
 ghost use Rattle.numerics.specs.Double.{_⊘_};
 ghost use Rattle.elementary.specs.Ln.{lnOf};
 ghost use Rattle.gerg_tables.specs.Tables.{tables, Shaped};
@@ -25,20 +25,6 @@ pub enum HelmholtzAnswer {
     Derivatives(GergDerivatives),
     // with document 01's number
     Refused(u8),
-}
-
-pub fn is_finite(x: f64) -> bool
-    ensures { λ r. ⌜ r ≡ finite x ⌝ }
-{
-    let d = x - x;
-    d == d
-}
-
-// A table's byte as an index.
-pub fn wide(x: u8) -> usize
-    ensures { λ r. ⌜ r ≡ x ⌝ }
-{
-    x as usize
 }
 
 // Component i, passed over where its fraction is 0. `logarithm` is that of delta, `density_logarithm` that of rho / 1000.
@@ -219,6 +205,17 @@ fn within_range(range: Range, temperature: f64, rho: f64) -> bool
     (range.temperature_low <= temperature)
         & (temperature <= range.temperature_high)
         & ((0.001 <= rho) & (rho <= 30000.0))
+}
+
+// 200 to 450 K, pressures to 35 MPa.
+pub fn normal_range() -> Range
+    ensures { λ r. ⌜ r ≡ is.normalRange ⌝ }
+{
+    Range {
+        temperature_low: 200.0,
+        temperature_high: 450.0,
+        pressure_high: 35.0e6,
+    }
 }
 
 // Rows 6 to 9 at one density of an isotherm.

@@ -1,6 +1,6 @@
 // What the derivatives take from the temperature alone: powers of tau and the ideal part's numbers, in the cells of one array.
 use crate::GergModel;
-use crate::helmholtz::wide;
+use crate::mixture::wide;
 use elementary::hyperbolic;
 use elementary::ln;
 use elementary::power;

@@ -1,5 +1,5 @@
 // Powers of delta, dampings and their exponentials for small exponents, each worked out once for a density.
-use crate::helmholtz::wide;
+use crate::mixture::wide;
 use elementary::exp;
 use elementary::power as elementary_power;
 ghost use mathlib.Core.Path.{_≡_};

@@ -1,6 +1,6 @@
 // The pure terms of a component.
 use crate::derivatives::GergDerivatives;
-use crate::helmholtz::wide;
+use crate::mixture::wide;
 use crate::powers;
 use elementary::power;
 use gerg_tables::named;
