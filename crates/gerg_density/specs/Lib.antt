@@ -2,3 +2,4 @@
 pub mod Checks
 pub mod Point
 pub mod Steps
+pub mod Run

@@ -1,0 +1,4 @@
+-- Doubles as whole numbers and their gaps, the rounding of a bracket's points, and what holds of every search.
+pub mod Gap
+pub mod Rounded
+pub mod Shrink

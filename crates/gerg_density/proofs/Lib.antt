@@ -1,0 +1,2 @@
+-- Laws of the density search that speak of no code.
+pub mod Laws
