@@ -2,3 +2,5 @@
 pub mod Gap
 pub mod Rounded
 pub mod Shrink
+pub mod Inner
+pub mod Bound

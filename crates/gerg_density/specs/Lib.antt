@@ -3,3 +3,4 @@ pub mod Checks
 pub mod Point
 pub mod Steps
 pub mod Run
+pub mod Verdicts

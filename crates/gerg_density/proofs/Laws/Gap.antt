@@ -1,14 +1,15 @@
 -- Doubles above zero as whole numbers of 2 ^ -1074, and the gap between two of them: a double above x is above it by at least one part in 2 ^ 53 of x. Assumes nothing.
 use mathlib.Core.Path.{_≡_, refl, sym, ap, _∙_, subst}
-use Prim.Native.Nat.{ℕ, zero, suc, _+_, _-_, _*_, _%_, _^_, _≤_, _<_}
-use native.Mathlib.Nat.{le-of-lt, lt-of-not-le, not-le-of-lt, lt-trans, mul-one, mul-assoc, mul-le-mul-right, lt-of-mul-lt-mul-right, lt-of-lt-of-le, add-sub-of-le, sub-add-cancel, lt-irrefl}
+use Prim.Native.Nat.{ℕ, zero, suc, _+_, _-_, _*_, _/_, _%_, _^_, _≤_, _<_}
+use native.Mathlib.Nat.{le-of-lt, lt-of-not-le, not-le-of-lt, lt-trans, mul-one, mul-assoc, mul-le-mul-right, lt-of-mul-lt-mul-right, lt-of-lt-of-le, add-sub-of-le, sub-add-cancel, lt-irrefl, mul-div-cancel}
 use native.Mathlib.Omega.{arith}
 use mathlib.Core.Bool.{Bool, true, false, not, _&&_}
 use lib.IntN.{ℤ, pos, negsuc}
 use lib.Dec.{T, ltb, leb, eqb, ltb→lt, leb→le, nleb→lt, lt→ltb}
 use lib.Pow.{pow-add, pow-pos, pow-lt}
-use lib.Ieee.{Float, nan, inf, fin, binary64, up, down, fits, lt, le}
+use lib.Ieee.{Float, nan, inf, fin, binary64, up, down, size, fits, toBits, ofBits, lt, le}
 use lib.Ieee.Fits.{and-l, and-r}
+use lib.Ieee.Bits.{ofBits-toBits}
 use lib.Ieee.Positive.{num, den, positive, den-pos, le→cross, cross→le}
 use Rattle.numerics.specs.Frac.{big}
 use Rattle.numerics.specs.Round.{val}
@@ -158,3 +159,18 @@ le→count x y g k h = on-le unit (val x) (val y) (count x) (count y) (counted x
 
 pub count→le : (x y : Float) → Good x → Good y → count x ≤ count y → T (le x y)
 count→le x y g k h = cross→le x y (g .above) (k .above) (le-on unit (val x) (val y) (count x) (count y) unit-pos (counted x (g .above) (g .held)) (counted y (k .above) (k .held)) h)
+
+-- ---- doubles of one count are one double
+pattern : ℕ → ℕ
+pattern n = 0 + (size n - 53) * 2 ^ 52 + n / 2 ^ (size n - 53)
+
+pattern-of : (x : Float) → Good x → toBits binary64 x ≡ pattern (count x)
+unfolding toBits pattern unit
+pattern-of nan g = absurd (g .above)
+pattern-of (inf s) g = absurd (g .above)
+pattern-of (fin true m e) g = absurd (g .above)
+pattern-of (fin false m e) g = ap pattern (ap (λ (z : ℕ). z / down e) (counted (fin false m e) (g .above) (g .held)) ∙ mul-div-cancel (count (fin false m e)) (den-pos (fin false m e)))
+
+pub same : (x y : Float) → Good x → Good y → count x ≡ count y → x ≡ y
+same x y g h e =
+    sym (ofBits-toBits binary64 x (g .held)) ∙ ap (ofBits binary64) (pattern-of x g ∙ ap pattern e ∙ sym (pattern-of y h)) ∙ ofBits-toBits binary64 y (h .held)

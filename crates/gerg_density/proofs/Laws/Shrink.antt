@@ -3,7 +3,7 @@ use mathlib.Core.Path.{_≡_, refl, sym, ap, _∙_, subst}
 use Prim.Native.Nat.{ℕ, zero, suc, _+_, _-_, _*_, _^_, _≤_, _<_}
 use native.Mathlib.Nat.{le-trans, le-of-eq, le-of-lt, lt-of-lt-of-le, mul-le-mul, mul-le-mul-right, mul-le-mul-left, lt-of-not-le, not-le-of-lt}
 use native.Mathlib.Omega.{arith}
-use mathlib.Core.Bool.{Bool, true, false, _&&_, _||_}
+use mathlib.Core.Bool.{Bool, true, false, _&&_, _||_, true≢false}
 use lib.IntN.{ℤ, pos, negsuc}
 use lib.Dec.{T, lit≤}
 use lib.Ieee.{Float, nan, inf, fin, binary64, add, sub, mul, round, ofBits, fits, lt, le, eq}
@@ -14,10 +14,10 @@ use Rattle.numerics.specs.Round.{val}
 use Rattle.numerics.specs.Rel.{less, add-is, sub-is}
 use Rattle.numerics.specs.Common.{On, le-on, on-add, on-less}
 use Rattle.numerics.specs.Fixed.{above-round, below-round}
-use Rattle.numerics.specs.Double.{_⊕_, _⊖_, _⊗_}
-use Rattle.gerg_density.specs.Point.{half, tenth, middleOf, marginOf, insideOf}
+use Rattle.numerics.specs.Double.{_⊕_, _⊖_, _⊗_, _⊘_, pick}
+use Rattle.gerg_density.specs.Point.{half, tenth, middleOf, marginOf, insideOf, nextOf, collapsedAt}
 use Rattle.gerg_density.specs.declared.Bracket.{Bracket}
-use Rattle.gerg_density.proofs.Laws.Gap.{unit, unit-pos, count, counted, gap, Good, lt→count, lt→cross, count→lt}
+use Rattle.gerg_density.proofs.Laws.Gap.{unit, unit-pos, count, counted, gap, Good, lt→cross, count→le}
 use Rattle.gerg_density.proofs.Laws.Rounded.{Near, rough, Ranged, sum-good, sum-near, less-good, less-near, part-good, part-near}
 
 -- D ≤ n A and u ≤ m B
@@ -209,3 +209,30 @@ module _ (lo hi : Float) (r : Ranged lo hi) where
     newton-shrinks =
         let p = newton-parts (count lo) (count x) (count hi) (count (tenth ⊗ (hi ⊖ lo))) margin-least newton-over newton-under in
         record { good = newton-good; over = omega (arith, newton-over); under = omega (arith, newton-under); left = p .0; right = p .1 }
+
+-- ---- the next point of a bracket, where it is not collapsed
+not-collapsed : (b : Bracket) (x : Float) → collapsedAt b x ≡ false → (T (le x (b .lo)) → ⊥) × (T (le (b .hi) x) → ⊥)
+unfolding collapsedAt
+not-collapsed b x e = go (le x (b .lo)) (le (b .hi) x) e
+  where
+    go : (p q : Bool) → (p || q) ≡ false → (T p → ⊥) × (T q → ⊥)
+    go true q e = absurd (true≢false e)
+    go false true e = absurd (true≢false e)
+    go false false e = (λ t. t, λ t. t)
+
+pub next-shrinks : (b : Bracket) (rho f d : Float) → Ranged (b .lo) (b .hi) → collapsedAt b (nextOf b rho f d) ≡ false → Shrunk (b .lo) (nextOf b rho f d) (b .hi)
+unfolding nextOf insideOf middleOf
+next-shrinks b rho f d r = go (insideOf b (rho ⊖ f ⊘ d)) refl
+  where
+    go : (i : Bool) → insideOf b (rho ⊖ f ⊘ d) ≡ i → collapsedAt b (pick i (rho ⊖ f ⊘ d) (middleOf b)) ≡ false → Shrunk (b .lo) (pick i (rho ⊖ f ⊘ d) (middleOf b)) (b .hi)
+    go true i c =
+        let x = rho ⊖ f ⊘ d in
+        let t : T (insideOf b x) = subst T (sym i) tt in
+        newton-shrinks (b .lo) (b .hi) r x (sub-fits binary64 rho (f ⊘ d)) (and-l (lt (b .lo ⊕ marginOf b) x) (lt x (b .hi ⊖ marginOf b)) t) (and-r (lt (b .lo ⊕ marginOf b) x) (lt x (b .hi ⊖ marginOf b)) t)
+    go false i c =
+        let x = middleOf b in
+        let n = not-collapsed b x c in
+        let g = middle-good (b .lo) (b .hi) r in
+        middle-shrinks (b .lo) (b .hi) r
+        (lt-of-not-le (λ (h : count x ≤ count (b .lo)). n .0 (count→le x (b .lo) g (r .low) h)))
+        (lt-of-not-le (λ (h : count (b .hi) ≤ count x). n .1 (count→le (b .hi) x (r .high) g h)))
