@@ -4,3 +4,5 @@ pub mod Rounded
 pub mod Shrink
 pub mod Inner
 pub mod Bound
+pub mod Start
+pub mod Course
