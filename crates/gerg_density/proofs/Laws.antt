@@ -6,3 +6,4 @@ pub mod Inner
 pub mod Bound
 pub mod Start
 pub mod Course
+pub mod Whole

@@ -30,23 +30,23 @@ use Rattle.gerg_density.proofs.Laws.Inner.{after, Goes, Inner, Narrowed
 use Rattle.gerg_density.proofs.Laws.Bound.{list-is}
 
 -- what a step's answer holds: the number of a refusal, its density
-abbrev number : Step → ℕ
+abbrev pub number : Step → ℕ
 number (Try x) = 0
 number (Accepted x) = 0
 number (Refused n) = n
 
-abbrev place : Step → Float
+abbrev pub place : Step → Float
 place (Try x) = x
 place (Accepted x) = x
 place (Refused n) = +0
 
 -- 0 for `Try`, 1 for `Accepted`, 2 for `Refused`
-abbrev kind : Step → ℕ
+abbrev pub kind : Step → ℕ
 kind (Try x) = 0
 kind (Accepted x) = 1
 kind (Refused n) = 2
 
-unlike : {A : Type 0} (m n : ℕ) → m ≡ n → (m ≡ n → ⊥) → A
+pub unlike : {A : Type 0} (m n : ℕ) → m ≡ n → (m ≡ n → ⊥) → A
 unlike m n e h = absurd (h e)
 
 -- ---- an interior step's answer and what it says
@@ -116,12 +116,12 @@ pub record Limited (o : Options) (l : List Float) : Type 0 where
 pub record Known (o : Options) (v : Float → Sample) (l : List Float) (s : Search) (a : Step) : Type 0 where
   pub counts : s .trials ≡ length l
   pub ended : (x : Float) → a ≡ Try x → ⊥
-  pub accepted : (x : Float) → a ≡ Accepted x → (x ≡ s .density) × T (le (o .bracket .lo) x) × T (le x (o .bracket .hi))
+  pub accepted : (x : Float) → a ≡ Accepted x → T (le (o .bracket .lo) x) × T (le x (o .bracket .hi))
   pub collapses : a ≡ Refused 18 → Collapsed o v l
   pub limited : a ≡ Refused 19 → Limited o l
 
 -- the state that a step ends
-abbrev Ends : Options → (Float → Sample) → List Float → Search → Type 0
+abbrev pub Ends : Options → (Float → Sample) → List Float → Search → Type 0
 Ends o v l s = Known o v l s (stepOf o s (v (s .density)))
 
 module _ (o : Options) (v : Float → Sample) (fair : Fair v) (gl : Good (o .bracket .lo)) (gh : Good (o .bracket .hi)) (l : List Float) where
@@ -181,11 +181,10 @@ module _ (o : Options) (v : Float → Sample) (fair : Fair v) (gl : Good (o .bra
         limited = λ q. limit (v (s .density)) refl cs (p ∙ q);
       }
     where
-      accept : (y : Sample) (x : Float) → stepOf o s y ≡ Accepted x → (x ≡ s .density) × T (le (o .bracket .lo) x) × T (le x (o .bracket .hi))
+      accept : (y : Sample) (x : Float) → stepOf o s y ≡ Accepted x → T (le (o .bracket .lo) x) × T (le x (o .bracket .hi))
       accept (Stopped m) x q = unlike 2 1 (ap kind q) (omega arith)
       accept (Residual f d) x q =
           let z = accepts o s f d x (sym (ap (stageOf o s f d) (i .stage)) ∙ q) in (
-            z,
             subst (λ (w : Float). T (le (o .bracket .lo) w)) (sym z) (count→le (o .bracket .lo) (s .density) gl (i .good) (le-trans (i .first) (i .from))),
             subst (λ (w : Float). T (le w (o .bracket .hi))) (sym z) (count→le (s .density) (o .bracket .hi) (i .good) gh (le-trans (i .to) (i .last))),
           )

@@ -12,8 +12,8 @@ use lib.Ieee.Positive.{num, den, positive, between}
 use Rattle.numerics.specs.Frac.{Frac, _⊑_, _⊞_, big, small, small-suc}
 use Rattle.numerics.specs.Round.{val}
 use Rattle.numerics.specs.Rel.{less, add-is, sub-is}
-use Rattle.numerics.specs.Common.{On, le-on, on-add, on-less}
-use Rattle.numerics.specs.Fixed.{above-round, below-round}
+use Rattle.numerics.specs.Common.{On, on-le, le-on, on-add, on-less}
+use Rattle.numerics.specs.Fixed.{above-round, below-round, value-le-round, round-le-value}
 use Rattle.numerics.specs.Double.{_⊕_, _⊖_, _⊗_, _⊘_, pick}
 use Rattle.gerg_density.specs.Point.{half, tenth, middleOf, marginOf, insideOf, nextOf, collapsedAt}
 use Rattle.gerg_density.specs.declared.Bracket.{Bracket}
@@ -114,6 +114,12 @@ module _ (lo hi : Float) (r : Ranged lo hi) where
   half-most : count (half ⊗ (hi ⊖ lo)) ≤ unit * 2 ^ 16
   half-most = omega (arith, width-most, rough (2 * count (half ⊗ (hi ⊖ lo))) (1 * count (hi ⊖ lo)) (half-near .above))
 
+  half-sum : On unit (val lo ⊞ val (half ⊗ (hi ⊖ lo))) (count lo + count (half ⊗ (hi ⊖ lo)))
+  half-sum = on-add unit (val lo) (val (half ⊗ (hi ⊖ lo))) (count lo) (count (half ⊗ (hi ⊖ lo))) (counted lo (r .low .above) (r .low .held)) (counted (half ⊗ (hi ⊖ lo)) (half-good .above) (half-good .held))
+
+  half-fits : count lo + count (half ⊗ (hi ⊖ lo)) ≤ count hi
+  half-fits = omega (arith, r .rises, rough (2 * count (half ⊗ (hi ⊖ lo))) (1 * count (hi ⊖ lo)) (half-near .above), rough (count (hi ⊖ lo)) (count hi - count lo) (width-near .above))
+
   pub middle-good : Good (lo ⊕ half ⊗ (hi ⊖ lo))
   middle-good =
       sum-good lo (half ⊗ (hi ⊖ lo)) (r .low) half-good
@@ -125,6 +131,29 @@ module _ (lo hi : Float) (r : Ranged lo hi) where
       sum-near lo (half ⊗ (hi ⊖ lo)) (r .low) half-good
       (more unit (count lo + count (half ⊗ (hi ⊖ lo))) (2 ^ 10) (2 ^ 200) (omega (arith, r .least)) (lit≤ tt))
       (more (count lo + count (half ⊗ (hi ⊖ lo))) unit (2 ^ 17) (2 ^ 200) (omega (arith, r .rises, r .most, half-most)) (lit≤ tt))
+
+  -- it lies between the ends, which it may equal
+  pub middle-from : count lo ≤ count (lo ⊕ half ⊗ (hi ⊖ lo))
+  middle-from =
+      let h = half ⊗ (hi ⊖ lo) in
+      let z = val lo ⊞ val h in
+      let e = add-is binary64 lo h (r .low .above) (half-good .above) in
+      let x = lo ⊕ h in
+      on-le unit (val lo) (val x) (count lo) (count x) (counted lo (r .low .above) (r .low .held)) (counted x (middle-good .above) (middle-good .held))
+      (subst (λ (y : Float). val lo ⊑ val y) (sym e)
+      (value-le-round binary64 lo (r .low .above) (r .low .held) z (subst (λ (y : Float). T (positive y)) e (middle-good .above))
+      (le-on unit (val lo) z (count lo) (count lo + count h) unit-pos (counted lo (r .low .above) (r .low .held)) half-sum (omega arith))))
+
+  pub middle-to : count (lo ⊕ half ⊗ (hi ⊖ lo)) ≤ count hi
+  middle-to =
+      let h = half ⊗ (hi ⊖ lo) in
+      let z = val lo ⊞ val h in
+      let e = add-is binary64 lo h (r .low .above) (half-good .above) in
+      let x = lo ⊕ h in
+      on-le unit (val x) (val hi) (count x) (count hi) (counted x (middle-good .above) (middle-good .held)) (counted hi (r .high .above) (r .high .held))
+      (subst (λ (y : Float). val y ⊑ val hi) (sym e)
+      (round-le-value binary64 hi (r .high .above) (r .high .held) z (subst (λ (y : Float). T (positive y)) e (middle-good .above))
+      (le-on unit z (val hi) (count lo + count h) (count hi) unit-pos half-sum (counted hi (r .high .above) (r .high .held)) half-fits)))
 
   -- ---- a tenth of it
   margin-good : Good (tenth ⊗ (hi ⊖ lo))
