@@ -1,2 +1,3 @@
 -- Laws of the density search that speak of no code.
 pub mod Laws
+pub mod Promises
