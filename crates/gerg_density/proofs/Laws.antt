@@ -2,6 +2,7 @@
 pub mod Gap
 pub mod Rounded
 pub mod Shrink
+pub mod Neighbours
 pub mod Inner
 pub mod Bound
 pub mod Start

@@ -40,7 +40,7 @@ says m e t =
     let d = ltb (suc m * up e) (2 ^ 1024 * down e) in
     (ltb→lt (suc m) (2 ^ 53) (and-r a b (and-l (a && b) c (and-l (a && b && c) d t))), leb→le (down e) (2 ^ 1074) (and-r (a && b) c (and-l (a && b && c) d t)))
 
-pow-back : (i j : ℕ) → 2 ^ i ≤ 2 ^ j → i ≤ j
+pub pow-back : (i j : ℕ) → 2 ^ i ≤ 2 ^ j → i ≤ j
 pow-back i j h = native.Mathlib.Nat.le-of-suc-le-suc (lt-of-not-le (λ (g : suc j ≤ i). lt-irrefl (2 ^ j) (lt-of-lt-of-le (pow-lt g) h)))
 
 -- a double above zero: at most 53 digits, shifted
@@ -79,7 +79,7 @@ multiples a b P B Z h l =
     let k : a < b = lt-of-mul-lt-mul-right P l in
     omega (arith, mul-le-mul-right (P * B) k, mul-le-mul-right P h)
 
-shifted : (r j d k : ℕ) → j + d ≡ k → r * 2 ^ k ≡ r * 2 ^ d * 2 ^ j
+pub shifted : (r j d k : ℕ) → j + d ≡ k → r * 2 ^ k ≡ r * 2 ^ d * 2 ^ j
 shifted r j d k e = ap (λ (z : ℕ). r * 2 ^ z) (sym e) ∙ ap (λ (z : ℕ). r * z) (pow-add 2 j d) ∙ regroup r (2 ^ j) (2 ^ d)
   where
     regroup : (a b c : ℕ) → a * (b * c) ≡ a * c * b

@@ -31,7 +31,7 @@ more : (u m A K : ℕ) → u ≤ m * A → A ≤ K → u ≤ m * K
 more u m A K h l = le-trans h (mul-le-mul-left m l)
 
 -- ---- 0.5 is 1 / 2, and 0.1 is 3602879701896397 / 2 ^ 55
-half-is : half ≡ fin false 1 (negsuc 0)
+pub half-is : half ≡ fin false 1 (negsuc 0)
 unfolding ofBits
 half-is = refl
 
@@ -66,7 +66,7 @@ left-part l r h w m o u a b c = omega arith
 newton-parts : (l x h m : ℕ) → (h - l) * 999 ≤ m * 10000 → l + m < x → x < h - m → (100 * (x - l) ≤ 91 * (h - l)) × (100 * (h - x) ≤ 91 * (h - l))
 newton-parts l x h m a o u = omega arith
 
-lt→le : (x y : Float) → T (lt x y) → T (le x y)
+pub lt→le : (x y : Float) → T (lt x y) → T (le x y)
 unfolding le
 lt→le x y h = go (lt x y) (eq x y) h
   where
@@ -86,10 +86,10 @@ module _ (lo hi : Float) (r : Ranged lo hi) where
   ceiling = omega (arith, r .most)
 
   -- ---- the width, rounded
-  width-good : Good (hi ⊖ lo)
+  pub width-good : Good (hi ⊖ lo)
   width-good = less-good hi lo (r .high) (r .low) (le-of-lt (r .rises)) (more unit (count hi - count lo) (2 ^ 63) (2 ^ 200) floor (lit≤ tt)) (more (count hi - count lo) unit (2 ^ 15) (2 ^ 200) ceiling (lit≤ tt))
 
-  width-near : Near (count (hi ⊖ lo)) (count hi - count lo)
+  pub width-near : Near (count (hi ⊖ lo)) (count hi - count lo)
   width-near = less-near hi lo (r .high) (r .low) (le-of-lt (r .rises)) (more unit (count hi - count lo) (2 ^ 63) (2 ^ 200) floor (lit≤ tt)) (more (count hi - count lo) unit (2 ^ 15) (2 ^ 200) ceiling (lit≤ tt))
 
   width-least : unit ≤ count (hi ⊖ lo) * 2 ^ 64
@@ -99,13 +99,13 @@ module _ (lo hi : Float) (r : Ranged lo hi) where
   width-most = omega (arith, ceiling, rough (count (hi ⊖ lo)) (count hi - count lo) (width-near .above))
 
   -- ---- half of it, and the middle
-  half-good : Good (half ⊗ (hi ⊖ lo))
+  pub half-good : Good (half ⊗ (hi ⊖ lo))
   half-good =
       part-good half (hi ⊖ lo) 1 2 (subst (λ (z : Float). T (positive z)) (sym half-is) tt) (ap num half-is) (ap den half-is) (lit≤ tt) width-good
       (product 2 1 2 unit (count (hi ⊖ lo)) (2 ^ 64) (2 ^ 200) (lit≤ tt) width-least (lit≤ tt))
       (product 1 2 1 (count (hi ⊖ lo)) unit (2 ^ 16) (2 ^ 200) (lit≤ tt) width-most (lit≤ tt))
 
-  half-near : Near (2 * count (half ⊗ (hi ⊖ lo))) (1 * count (hi ⊖ lo))
+  pub half-near : Near (2 * count (half ⊗ (hi ⊖ lo))) (1 * count (hi ⊖ lo))
   half-near =
       part-near half (hi ⊖ lo) 1 2 (subst (λ (z : Float). T (positive z)) (sym half-is) tt) (ap num half-is) (ap den half-is) (lit≤ tt) width-good
       (product 2 1 2 unit (count (hi ⊖ lo)) (2 ^ 64) (2 ^ 200) (lit≤ tt) width-least (lit≤ tt))
@@ -114,7 +114,7 @@ module _ (lo hi : Float) (r : Ranged lo hi) where
   half-most : count (half ⊗ (hi ⊖ lo)) ≤ unit * 2 ^ 16
   half-most = omega (arith, width-most, rough (2 * count (half ⊗ (hi ⊖ lo))) (1 * count (hi ⊖ lo)) (half-near .above))
 
-  half-sum : On unit (val lo ⊞ val (half ⊗ (hi ⊖ lo))) (count lo + count (half ⊗ (hi ⊖ lo)))
+  pub half-sum : On unit (val lo ⊞ val (half ⊗ (hi ⊖ lo))) (count lo + count (half ⊗ (hi ⊖ lo)))
   half-sum = on-add unit (val lo) (val (half ⊗ (hi ⊖ lo))) (count lo) (count (half ⊗ (hi ⊖ lo))) (counted lo (r .low .above) (r .low .held)) (counted (half ⊗ (hi ⊖ lo)) (half-good .above) (half-good .held))
 
   half-fits : count lo + count (half ⊗ (hi ⊖ lo)) ≤ count hi
