@@ -13,7 +13,7 @@ use Rattle.numerics.specs.Double.{pick}
 use Rattle.gerg_density.specs.Checks.{optionsRefused, targetRefused}
 use Rattle.gerg_density.specs.Steps.{stepOf}
 use Rattle.gerg_density.specs.Run.{searched, lastOf, answerOf, valueOf, reported, outcomeOf, trialsOf}
-use Rattle.gerg_density.specs.Verdicts.{Fair, Doubles}
+use Rattle.gerg_density.specs.Verdicts.{Fair, Doubles, Limited, Neighbours}
 use Rattle.gerg_density.specs.declared.Bracket.{Bracket}
 use Rattle.gerg_density.specs.declared.Options.{Options}
 use Rattle.gerg_density.specs.declared.Sample.{Sample}
@@ -22,8 +22,10 @@ use Rattle.gerg_density.specs.declared.Step.{Step}
 use Rattle.gerg_density.specs.declared.Step.the-variants.{Try, Accepted, Refused}
 use Rattle.gerg_density.specs.declared.Outcome.{Outcome}
 use Rattle.gerg_density.specs.declared.Outcome.the-variants.{Found, Failed}
-use Rattle.gerg_density.proofs.Laws.Start.{begun}
-use Rattle.gerg_density.proofs.Laws.Course.{Collapsed, Limited, Known, unlike}
+use Rattle.gerg_density.proofs.Laws.Gap.{count→lt}
+use Rattle.gerg_density.proofs.Laws.Neighbours.{neighbours}
+use Rattle.gerg_density.proofs.Laws.Start.{Begun, begun, over-zero}
+use Rattle.gerg_density.proofs.Laws.Course.{Collapsed, Known, unlike}
 use Rattle.gerg_density.proofs.Laws.Whole.{Done, whole}
 
 -- an outcome's number (0 where it is found), and its count
@@ -60,6 +62,7 @@ report-failed (Refused j) n b m k h e = (ap Refused (ap numberOf e), sym (ap cou
 pub record Searched (high target : Float) (o : Options) (v : Float → Sample) : Type 0 where
   pub outcome : outcomeOf high target o v ≡ reported (answerOf o v) (length (searched o v)) (lastOf o v .bracket)
   pub list : trialsOf high target o v ≡ searched o v
+  pub begins : Begun o
   pub done : Done o v (searched o v) (lastOf o v)
 
 module _ (high target : Float) (o : Options) (v : Float → Sample) (doubles : Doubles o) (fair : Fair v) where
@@ -70,7 +73,7 @@ module _ (high target : Float) (o : Options) (v : Float → Sample) (doubles : D
       go : (p q : Bool) → optionsRefused o ≡ p → targetRefused high target ≡ q → Searched high target o v
       go true q e f = absurd (n13 (rw e))
       go false true e f = absurd (n14 (rw (e, f)))
-      go false false e f = record { outcome = rw (e, f); list = rw (e, f); done = whole o v (begun o doubles e) fair }
+      go false false e f = record { outcome = rw (e, f); list = rw (e, f); begins = begun o doubles e; done = whole o v (begun o doubles e) fair }
 
   -- "However the search ends the list has at most 600 densities"
   pub at-most-600 : length (trialsOf high target o v) ≤ 600
@@ -128,3 +131,21 @@ module _ (high target : Float) (o : Options) (v : Float → Sample) (doubles : D
   pub in-bracket : (x : Float) (k : ℕ) (b : Bracket) → outcomeOf high target o v ≡ Found x k b → T (le (o .bracket .lo) x) × T (le x (o .bracket .hi))
   unfolding answerOf
   in-bracket x k b e = let f = reached x k b e in f .0 .done .known .accepted x (f .1)
+
+  -- "18 only where two neighbouring doubles were both tried in that search, neither within the tolerance, .. one below the target and .. the other above it"
+  pub collapsed : (k : ℕ) → outcomeOf high target o v ≡ Failed 18 k → Neighbours o v (trialsOf high target o v)
+  unfolding answerOf
+  collapsed k e =
+      let f = failed 18 k e (omega arith) (omega arith) in
+      let c = f .0 .done .known .collapses (f .1) in
+      subst (λ (l : List Float). Neighbours o v l) (sym (f .0 .list)) (record {
+        low = c .bracket .lo;
+        high = c .bracket .hi;
+        order = count→lt (c .bracket .lo) (c .bracket .hi) (c .ranged .low) (c .ranged .high) (c .ranged .rises);
+        none = neighbours (c .bracket) (c .at) (c .f) (c .derivative) (c .ranged) (c .collapsed);
+        low-tried = c .low;
+        high-tried = c .high;
+        below = c .below;
+        above = c .above;
+        over = over-zero (o .tolerance) (c .above .f) (f .0 .begins .tolerance) (fair .number (c .bracket .hi) (c .above .f) (c .above .derivative) (c .above .is)) (c .above .sign) (c .above .outside);
+      })

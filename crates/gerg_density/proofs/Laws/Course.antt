@@ -13,7 +13,7 @@ use Rattle.numerics.specs.Double.{+0, pick}
 use Rattle.gerg_density.specs.Point.{nextOf, narrowedOf, collapsedAt, withinOf}
 use Rattle.gerg_density.specs.Steps.{goOnOf, interiorOf, stageOf, stepOf, movedBy, movedOf}
 use Rattle.gerg_density.specs.Run.{onTry, counted, trialsFrom, lastFrom}
-use Rattle.gerg_density.specs.Verdicts.{Fair, Outside, Tried}
+use Rattle.gerg_density.specs.Verdicts.{Fair, Outside, Tried, Limited}
 use Rattle.gerg_density.specs.declared.Bracket.{Bracket}
 use Rattle.gerg_density.specs.declared.Options.{Options}
 use Rattle.gerg_density.specs.declared.Sample.{Sample}
@@ -103,15 +103,6 @@ pub record Collapsed (o : Options) (v : Float → Sample) (l : List Float) : Typ
   pub high : Tried o l (bracket .hi)
   pub below : Outside o v true (bracket .lo)
   pub above : Outside o v false (bracket .hi)
-
--- row 19: as many trials as the limit, and a double still between the ends
-pub record Limited (o : Options) (l : List Float) : Type 0 where
-  pub trials : length l ≡ o .limit
-  pub bracket : Bracket
-  pub between : Float
-  pub held : T (fits binary64 between)
-  pub over : T (lt (bracket .lo) between)
-  pub under : T (lt between (bracket .hi))
 
 pub record Known (o : Options) (v : Float → Sample) (l : List Float) (s : Search) (a : Step) : Type 0 where
   pub counts : s .trials ≡ length l

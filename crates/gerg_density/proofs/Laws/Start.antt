@@ -125,6 +125,18 @@ below-zero t f p n u w = go (lt f +0) refl w
     go true e w = refl
     go false e w = absurd (below-fin t f p n (subst (λ (z : Float). lt z f ≡ false) zero-is u) (subst (λ (z : Float). lt f z ≡ false) zero-is e) w)
 
+-- and one that is not below zero is above it
+pub over-zero : (t f : Float) → T (positive t) → isNan f ≡ false → lt f +0 ≡ false → withinOf t f ≡ false → T (lt +0 f)
+unfolding withinOf
+over-zero t f p n d w = go (lt +0 f) refl
+  where
+    outside : le f t ≡ false
+    outside = ap (λ (b : Bool). pick b (le (neg f) t) (le f t)) (sym d) ∙ w
+
+    go : (b : Bool) → lt +0 f ≡ b → T b
+    go true e = tt
+    go false e = absurd (below-fin t f p n (subst (λ (z : Float). lt z f ≡ false) zero-is e) (subst (λ (z : Float). lt f z ≡ false) zero-is d) outside)
+
 -- ---- the ends of the range as fractions
 least-is : leastDensity ≡ fin false 1152921504606847 (negsuc 59)
 unfolding ofBits
