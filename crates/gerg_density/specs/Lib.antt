@@ -4,3 +4,4 @@ pub mod Point
 pub mod Steps
 pub mod Run
 pub mod Verdicts
+pub mod Cases
