@@ -4,6 +4,7 @@
 pub mod checks;
 pub mod point;
 pub mod steps;
+pub mod trial;
 
 // The ends of an interval of densities, in mol/m³.
 pub struct Bracket {
