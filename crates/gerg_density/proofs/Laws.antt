@@ -8,3 +8,4 @@ pub mod Bound
 pub mod Start
 pub mod Course
 pub mod Whole
+pub mod Signs

@@ -74,7 +74,7 @@ above-it (fin false m e) (fin false (suc n) d) p f l =
     (q, lt-of-not-le (λ h. clash (cross→le (fin false (suc n) d) (fin false m e) q p h) l))
 
 -- ---- above zero
-zero-is : +0 ≡ fin false 0 (pos 0)
+pub zero-is : +0 ≡ fin false 0 (pos 0)
 unfolding ofBits
 zero-is = refl
 
@@ -98,7 +98,7 @@ above-fin (fin true (suc m) e) f l = clash (or-left (ltb 0 (suc m * up e * 1 + 0
 above-fin (fin false zero e) f l = clash (zeros-level false (0 * up e * 1) (0 * 1 * down e) (omega arith) (omega arith)) l
 above-fin (fin false (suc m) e) f l = lt→ltb 0 (suc m) (zero-lt-suc m)
 
-above-zero : (t : Float) → finite t ≡ true → le t +0 ≡ false → T (positive t)
+pub above-zero : (t : Float) → finite t ≡ true → le t +0 ≡ false → T (positive t)
 above-zero t f l = above-fin t f (subst (λ (z : Float). le t z ≡ false) zero-is l)
 
 -- ---- a residual that is a number, not above zero and not within the tolerance, is below zero
