@@ -9,3 +9,4 @@ pub mod Start
 pub mod Course
 pub mod Whole
 pub mod Signs
+pub mod Ahead
