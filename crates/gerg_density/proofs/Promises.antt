@@ -1,4 +1,4 @@
--- What every density search keeps, whatever the equation: for any verdicts of the trials, any bracket, limit, tolerance, target and pressure end.
+-- What every density search keeps, whatever the equation: for any fair verdicts of the trials, any bracket, limit, tolerance, target and pressure end.
 -- `outcomeOf` and `trialsOf` are the definitions that the contracts name. Assumes nothing.
 use mathlib.Core.Path.{_≡_, refl, sym, ap, _∙_, subst}
 use mathlib.Core.Bool.{Bool, true, false, _||_, true≢false}
@@ -63,9 +63,10 @@ pub record Searched (high target : Float) (o : Options) (v : Float → Sample) :
   pub outcome : outcomeOf high target o v ≡ reported (answerOf o v) (length (searched o v)) (lastOf o v .bracket)
   pub list : trialsOf high target o v ≡ searched o v
   pub begins : Begun o
+  pub fairly : Fair v
   pub done : Done o v (searched o v) (lastOf o v)
 
-module _ (high target : Float) (o : Options) (v : Float → Sample) (doubles : Doubles o) (fair : Fair v) where
+module _ (high target : Float) (o : Options) (v : Float → Sample) (doubles : Doubles o) (fair : targetRefused high target ≡ false → Fair v) where
   behind : (numberOf (outcomeOf high target o v) ≡ 13 → ⊥) → (numberOf (outcomeOf high target o v) ≡ 14 → ⊥) → Searched high target o v
   unfolding outcomeOf trialsOf
   behind n13 n14 = go (optionsRefused o) (targetRefused high target) refl refl
@@ -73,7 +74,7 @@ module _ (high target : Float) (o : Options) (v : Float → Sample) (doubles : D
       go : (p q : Bool) → optionsRefused o ≡ p → targetRefused high target ≡ q → Searched high target o v
       go true q e f = absurd (n13 (rw e))
       go false true e f = absurd (n14 (rw (e, f)))
-      go false false e f = record { outcome = rw (e, f); list = rw (e, f); begins = begun o doubles e; done = whole o v (begun o doubles e) fair }
+      go false false e f = record { outcome = rw (e, f); list = rw (e, f); begins = begun o doubles e; fairly = fair f; done = whole o v (begun o doubles e) (fair f) }
 
   -- "However the search ends the list has at most 600 densities"
   pub at-most-600 : length (trialsOf high target o v) ≤ 600
@@ -83,7 +84,7 @@ module _ (high target : Float) (o : Options) (v : Float → Sample) (doubles : D
       go : (p q : Bool) → optionsRefused o ≡ p → targetRefused high target ≡ q → length (pick (optionsRefused o || targetRefused high target) [] (searched o v)) ≤ 600
       go true q e f = rw e zero-le
       go false true e f = rw (e, f) zero-le
-      go false false e f = rw (e, f) (le-trans (whole o v (begun o doubles e) fair .few) (lit≤ tt))
+      go false false e f = rw (e, f) (le-trans (whole o v (begun o doubles e) (fair f) .few) (lit≤ tt))
 
   failed : (m k : ℕ) → outcomeOf high target o v ≡ Failed m k → (m ≡ 13 → ⊥) → (m ≡ 14 → ⊥) → Searched high target o v × (answerOf o v ≡ Refused m) × (k ≡ valueOf m (length (trialsOf high target o v)))
   unfolding answerOf
@@ -147,5 +148,5 @@ module _ (high target : Float) (o : Options) (v : Float → Sample) (doubles : D
         high-tried = c .high;
         below = c .below;
         above = c .above;
-        over = over-zero (o .tolerance) (c .above .f) (f .0 .begins .tolerance) (fair .number (c .bracket .hi) (c .above .f) (c .above .derivative) (c .above .is)) (c .above .sign) (c .above .outside);
+        over = over-zero (o .tolerance) (c .above .f) (f .0 .begins .tolerance) (f .0 .fairly .number (c .bracket .hi) (c .above .f) (c .above .derivative) (c .above .is)) (c .above .sign) (c .above .outside);
       })
