@@ -10,3 +10,5 @@ pub mod Course
 pub mod Whole
 pub mod Signs
 pub mod Ahead
+pub mod Verdict
+pub mod Turn

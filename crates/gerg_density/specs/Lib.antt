@@ -3,6 +3,7 @@ pub mod Checks
 pub mod Point
 pub mod Steps
 pub mod Trial
+pub mod Density
 pub mod Run
 pub mod Verdicts
 pub mod Cases

@@ -2,9 +2,12 @@
 // verdict of the trial at one density and answers what to do next; all that a search knows is in one struct by value.
 
 pub mod checks;
+pub mod density;
 pub mod point;
 pub mod steps;
 pub mod trial;
+
+use gerg::GergState;
 
 // The ends of an interval of densities, in mol/m³.
 pub struct Bracket {
@@ -60,4 +63,19 @@ pub enum Outcome {
         number: u8,
         value: usize,
     },
+}
+
+// An accepted density: its state, the state's scaled pressure residual, the interior trials, the given bracket and the last one.
+pub struct DensityResult {
+    pub state: GergState,
+    pub residual: f64,
+    pub trials: usize,
+    pub first: Bracket,
+    pub last: Bracket,
+}
+
+// A refusal has document 01's number and value.
+pub enum DensityAnswer {
+    Accepted(DensityResult),
+    Refused { number: u8, value: usize },
 }

@@ -4,6 +4,7 @@ use mathlib.Core.Bool.{Bool, true, false, not, _&&_, _||_, true≢false, false�
 use Prim.Native.Nat.{ℕ, zero, suc, _+_, _-_, _*_, _^_, _≤_, _<_}
 use native.Mathlib.Nat.{le-trans, lt-of-lt-of-le, lt-of-not-le, not-le-of-lt, mul-pos, mul-one, zero-lt-suc, le-of-suc-le-suc}
 use native.Mathlib.Omega.{arith}
+use borrow.Author.Tests.{eqb-false}
 use lib.IntN.{ℤ, pos, negsuc}
 use lib.Dec.{T, ltb, eqb, ltb→lt, nltb→le, lt→ltb, lit≤, lit<}
 use lib.Ieee.{Float, nan, inf, fin, binary64, up, down, ofBits, fits, isNan, lt, le, eq, neg, below, level}
@@ -14,7 +15,7 @@ use Rattle.numerics.specs.Frac.{Frac, _⊑_, ⊑-trans, nat}
 use Rattle.numerics.specs.Round.{val}
 use Rattle.numerics.specs.Common.{On, on-le}
 use Rattle.numerics.specs.Double.{+0, pick}
-use Rattle.gerg_density.specs.Checks.{optionsRefused, leastDensity, mostDensity, mostTolerance}
+use Rattle.gerg_density.specs.Checks.{optionsRefused, targetRefused, leastDensity, mostDensity, mostTolerance}
 use Rattle.gerg_density.specs.Point.{withinOf}
 use Rattle.gerg_density.specs.Verdicts.{Doubles}
 use Rattle.gerg_density.specs.declared.Options.{Options}
@@ -200,3 +201,18 @@ begun o h e =
     most hi g h =
         on-le unit (val hi) (nat (2 ^ 15)) (count hi) (unit * 2 ^ 15) (counted hi (g .above) (g .held)) (omega arith)
         (⊑-trans (val hi) (val mostDensity) (nat (2 ^ 15)) h (subst (λ (z : Float). val z ⊑ nat (2 ^ 15)) (sym most-is) (lit≤ tt)))
+
+-- what row 14 leaves
+pub target-positive : (high target : Float) → targetRefused high target ≡ false → T (positive target)
+unfolding targetRefused
+target-positive high target e =
+    let e2 = or-false (not (finite target) || le target +0) (lt high target) e in
+    let e1 = or-false (not (finite target)) (le target +0) (e2 .0) in
+    above-zero target (not-false (finite target) (e1 .0)) (e1 .1)
+
+pub some-limit : (o : Options) → Begun o → 1 ≤ o .limit
+some-limit o b = go (o .limit) (eqb-false (o .limit) 0 (b .limit))
+  where
+    go : (n : ℕ) → (n ≡ 0 → ⊥) → 1 ≤ n
+    go zero h = absurd (h refl)
+    go (suc n) h = omega arith
