@@ -66,6 +66,16 @@ pub record Searched (high target : Float) (o : Options) (v : Float → Sample) :
   pub fairly : Fair v
   pub done : Done o v (searched o v) (lastOf o v)
 
+-- row 14 passed, where the outcome is neither 13 nor 14
+pub not-14 : (high target : Float) (o : Options) (v : Float → Sample) (n k : ℕ) → outcomeOf high target o v ≡ Failed n k → (n ≡ 13 → ⊥) → (n ≡ 14 → ⊥) → targetRefused high target ≡ false
+unfolding outcomeOf
+not-14 high target o v n k e n13 n14 = go (optionsRefused o) (targetRefused high target) e
+  where
+    go : (p q : Bool) → pick p (Failed 13 0) (pick q (Failed 14 0) (reported (answerOf o v) (length (searched o v)) (lastOf o v .bracket))) ≡ Failed n k → q ≡ false
+    go true q e = absurd (n13 (sym (ap numberOf e)))
+    go false true e = absurd (n14 (sym (ap numberOf e)))
+    go false false e = refl
+
 module _ (high target : Float) (o : Options) (v : Float → Sample) (doubles : Doubles o) (fair : targetRefused high target ≡ false → Fair v) where
   behind : (numberOf (outcomeOf high target o v) ≡ 13 → ⊥) → (numberOf (outcomeOf high target o v) ≡ 14 → ⊥) → Searched high target o v
   unfolding outcomeOf trialsOf

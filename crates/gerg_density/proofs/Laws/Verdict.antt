@@ -11,7 +11,9 @@ use Rattle.gerg_tables.specs.declared.Tables.{Tables}
 use Rattle.gerg.specs.declared.GergModel.{GergModel}
 use Rattle.gerg.specs.declared.Range.{Range}
 use Rattle.gerg.specs.declared.helmholtz.HelmholtzAnswer.{HelmholtzAnswer}
+use Rattle.gerg.specs.declared.evaluate.EvaluateAnswer.{EvaluateAnswer}
 use Rattle.gerg.specs.Helmholtz.{helmholtzOf}
+use Rattle.gerg.specs.Evaluate.{evaluateOf}
 use Rattle.gerg_density.specs.Trial.{trialPressure, trialStiffness, sampleOf}
 use Rattle.gerg_density.specs.Density.{trialOf, verdictOf}
 use Rattle.gerg_density.specs.Verdicts.{Fair}
@@ -27,6 +29,15 @@ numberOf (HelmholtzAnswer.Refused n) = n
 helmholtz-number : (t : Tables) (m : GergModel) (range : Range) (temperature rho : Float) (n : ℕ) → helmholtzOf t m range temperature rho ≡ HelmholtzAnswer.Refused n → n < 16
 unfolding helmholtzOf
 helmholtz-number t m range temperature rho n e = subst (λ (k : ℕ). k < 16) (ap numberOf e) (lit≤ tt)
+
+-- rows 6 to 12
+abbrev numberAt : EvaluateAnswer → ℕ
+numberAt (EvaluateAnswer.State s) = 0
+numberAt (EvaluateAnswer.Refused n) = n
+
+pub evaluate-number : (t : Tables) (m : GergModel) (range : Range) (temperature rho : Float) (n : ℕ) → evaluateOf t m range temperature rho ≡ EvaluateAnswer.Refused n → n < 16
+unfolding evaluateOf
+evaluate-number t m range temperature rho n e = subst (λ (k : ℕ). k < 16) (ap numberAt e) (lit≤ tt)
 
 abbrev stoppedBy : Sample → ℕ
 stoppedBy (Residual f d) = 0
