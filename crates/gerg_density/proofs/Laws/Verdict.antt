@@ -2,18 +2,22 @@
 use mathlib.Core.Path.{_≡_, refl, sym, ap, _∙_, subst}
 use Prim.Native.Nat.{ℕ, _<_}
 use native.Mathlib.Omega.{arith}
-use mathlib.Core.Bool.{Bool, true, false}
+use mathlib.Core.Bool.{Bool, true, false, not}
 use lib.Dec.{T, lit≤}
-use lib.Ieee.{Float, lt, isNan}
+use lib.Ieee.{Float, le, isNan}
+use lib.Ieee.Scale.{finite}
 use lib.Ieee.Positive.{positive}
-use Rattle.numerics.specs.Double.{+0}
+use Rattle.numerics.specs.Double.{+0, pick}
 use Rattle.gerg_tables.specs.declared.Tables.{Tables}
 use Rattle.gerg.specs.declared.GergModel.{GergModel}
 use Rattle.gerg.specs.declared.Range.{Range}
 use Rattle.gerg.specs.declared.helmholtz.HelmholtzAnswer.{HelmholtzAnswer}
 use Rattle.gerg.specs.declared.evaluate.EvaluateAnswer.{EvaluateAnswer}
-use Rattle.gerg.specs.Helmholtz.{helmholtzOf}
-use Rattle.gerg.specs.Evaluate.{evaluateOf}
+use Rattle.gerg.specs.declared.GergState.{GergState}
+use Rattle.gerg.specs.declared.derivatives.GergDerivatives.{GergDerivatives}
+use Rattle.gerg.specs.Derivatives.{zeroDerivatives}
+use Rattle.gerg.specs.Helmholtz.{helmholtzOf, checkedOf, allFinite, withinRange, componentsOf, deltaOf, tauOf}
+use Rattle.gerg.specs.Evaluate.{evaluateOf, admittedAnswer, admittedOf, unstable, pressureOut, pressureOf, finiteState, stateOf}
 use Rattle.gerg_density.specs.Trial.{trialPressure, trialStiffness, sampleOf}
 use Rattle.gerg_density.specs.Density.{trialOf, verdictOf}
 use Rattle.gerg_density.specs.Verdicts.{Fair}
@@ -27,8 +31,22 @@ numberOf (HelmholtzAnswer.Refused n) = n
 
 -- rows 6 to 9
 helmholtz-number : (t : Tables) (m : GergModel) (range : Range) (temperature rho : Float) (n : ℕ) → helmholtzOf t m range temperature rho ≡ HelmholtzAnswer.Refused n → n < 16
-unfolding helmholtzOf
-helmholtz-number t m range temperature rho n e = subst (λ (k : ℕ). k < 16) (ap numberOf e) (lit≤ tt)
+unfolding helmholtzOf checkedOf
+helmholtz-number t m range temperature rho n e =
+    go (not (finite rho)) (le rho +0) (not (withinRange range temperature rho)) (componentsOf t (m .fractions) temperature rho (deltaOf m rho) (tauOf m temperature) zeroDerivatives) e
+  where
+    low : (k : ℕ) → k < 16 → k ≡ n → n < 16
+    low k h q = subst (λ (j : ℕ). j < 16) q h
+
+    last : (a : GergDerivatives) (b : Bool) → pick b (HelmholtzAnswer.Derivatives a) (HelmholtzAnswer.Refused 9) ≡ HelmholtzAnswer.Refused n → n < 16
+    last a true e = low 0 (lit≤ tt) (ap numberOf e)
+    last a false e = low 9 (lit≤ tt) (ap numberOf e)
+
+    go : (p q r : Bool) (a : GergDerivatives) → pick p (HelmholtzAnswer.Refused 6) (pick q (HelmholtzAnswer.Refused 7) (pick r (HelmholtzAnswer.Refused 8) (checkedOf a))) ≡ HelmholtzAnswer.Refused n → n < 16
+    go true q r a e = low 6 (lit≤ tt) (ap numberOf e)
+    go false true r a e = low 7 (lit≤ tt) (ap numberOf e)
+    go false false true a e = low 8 (lit≤ tt) (ap numberOf e)
+    go false false false a e = last a (allFinite a) e
 
 -- rows 6 to 12
 abbrev numberAt : EvaluateAnswer → ℕ
@@ -36,8 +54,22 @@ numberAt (EvaluateAnswer.State s) = 0
 numberAt (EvaluateAnswer.Refused n) = n
 
 pub evaluate-number : (t : Tables) (m : GergModel) (range : Range) (temperature rho : Float) (n : ℕ) → evaluateOf t m range temperature rho ≡ EvaluateAnswer.Refused n → n < 16
-unfolding evaluateOf
-evaluate-number t m range temperature rho n e = subst (λ (k : ℕ). k < 16) (ap numberAt e) (lit≤ tt)
+unfolding evaluateOf admittedAnswer admittedOf
+evaluate-number t m range temperature rho n e = go (helmholtzOf t m range temperature rho) refl e
+  where
+    low : (k : ℕ) → k < 16 → k ≡ n → n < 16
+    low k h q = subst (λ (j : ℕ). j < 16) q h
+
+    tests : (p q r : Bool) (s : GergState) → pick p (EvaluateAnswer.Refused 10) (pick q (EvaluateAnswer.Refused 11) (pick r (EvaluateAnswer.State s) (EvaluateAnswer.Refused 12))) ≡ EvaluateAnswer.Refused n → n < 16
+    tests true q r s e = low 10 (lit≤ tt) (ap numberAt e)
+    tests false true r s e = low 11 (lit≤ tt) (ap numberAt e)
+    tests false false true s e = low 0 (lit≤ tt) (ap numberAt e)
+    tests false false false s e = low 12 (lit≤ tt) (ap numberAt e)
+
+    go : (h : HelmholtzAnswer) → helmholtzOf t m range temperature rho ≡ h → admittedAnswer temperature rho (m .«molar_mass») (range .«pressure_high») h ≡ EvaluateAnswer.Refused n → n < 16
+    go (HelmholtzAnswer.Refused k) q e = low k (helmholtz-number t m range temperature rho k q) (ap numberAt e)
+    go (HelmholtzAnswer.Derivatives a) q e =
+        tests (unstable a temperature) (pressureOut (range .«pressure_high») (pressureOf a temperature rho)) (finiteState (stateOf a temperature rho (m .«molar_mass»))) (stateOf a temperature rho (m .«molar_mass»)) e
 
 abbrev stoppedBy : Sample → ℕ
 stoppedBy (Residual f d) = 0
