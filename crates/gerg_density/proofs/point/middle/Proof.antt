@@ -1,0 +1,12 @@
+-- `middle` meets its contract. Assumes nothing.
+use mathlib.Core.Path.{refl}
+use Rattle.gerg_density.specs.Point.{middleOf}
+use Rattle.gerg_density.proofs.point.middle.Statement.{statement}
+use Rattle.gerg_density.proofs.point.middle.Tie as tie
+
+returns : tie.Need-returns
+unfolding middleOf
+returns c = refl
+
+pub middle-spec : {M : Type 1} → statement M
+middle-spec = tie.close (tie.spec returns)
