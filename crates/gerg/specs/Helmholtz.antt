@@ -15,7 +15,7 @@ use Rattle.elementary.specs.Power.{powfOf, powiByteOf, signedDoubleOf}
 use Rattle.elementary.specs.Hyperbolic.{sinhOf, coshOf, tanhOf}
 use Rattle.gerg_tables.specs.declared.Tables.{Tables}
 use Rattle.gerg_tables.specs.Tables.{n0i, th0i, noik, toik, fij, cijk, eijk, gijk, nijk, tijk, kpol, kexp, coik, doik, mNumb, kpolij, kexpij, dijk}
-use Rattle.gerg.specs.declared.GergModel.{GergModel}
+use Rattle.gerg_model.specs.declared.GergModel.{GergModel}
 use Rattle.gerg.specs.declared.Range.{Range}
 use Rattle.gerg.specs.declared.derivatives.GergDerivatives.{GergDerivatives}
 use Rattle.gerg.specs.declared.helmholtz.HelmholtzAnswer.{HelmholtzAnswer}

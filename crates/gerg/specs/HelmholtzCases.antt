@@ -5,7 +5,7 @@ use lib.Ieee.{Float, add, neg, le, ofBits}
 use lib.Ieee.Scale.{finite}
 use Rattle.numerics.specs.Double.{bits, +0, one}
 use Rattle.gerg_tables.specs.declared.Tables.{Tables}
-use Rattle.gerg.specs.declared.GergModel.{GergModel}
+use Rattle.gerg_model.specs.declared.GergModel.{GergModel}
 use Rattle.gerg.specs.declared.helmholtz.HelmholtzAnswer.the-variants.{Refused}
 use Rattle.gerg.specs.Derivatives.{zeroDerivatives}
 use Rattle.gerg.specs.Helmholtz.{helmholtzOf, withinRange, normalRange, checkedOf, componentsOf, deltaOf, tauOf}

@@ -17,7 +17,7 @@ use Rattle.elementary.specs.Power.{powfOf, powiByteOf}
 use Rattle.elementary.specs.Hyperbolic.{sinhOf, coshOf, tanhOf}
 use Rattle.gerg_tables.specs.declared.Tables.{Tables}
 use Rattle.gerg_tables.specs.Tables.{n0i, th0i, toik, tijk, kpol, kexp, mNumb, kpolij, kexpij}
-use Rattle.gerg.specs.declared.GergModel.{GergModel}
+use Rattle.gerg_model.specs.declared.GergModel.{GergModel}
 use Rattle.gerg.specs.Helmholtz.{absent, tauOf}
 
 -- f 0, f 1, .., f (n - 1) written from a place on

@@ -15,7 +15,7 @@ use Rattle.numerics.specs.Double.{_⊘_, +0, pick}
 use Rattle.numerics.specs.Iterate.{iter, range, iter-begins, iter-turn, iter-done}
 use Rattle.gerg_tables.specs.declared.Tables.{Tables}
 use Rattle.gerg_tables.specs.Tables.{Shaped, n0i, th0i, kpol, kexp, mNumb, kpolij, kexpij}
-use Rattle.gerg.specs.declared.GergModel.{GergModel}
+use Rattle.gerg_model.specs.declared.GergModel.{GergModel}
 use Rattle.gerg.specs.Helmholtz.{absent, tauOf}
 use Rattle.gerg.specs.Isotherm.{written, pureCell, departureCell, baseCell, sinhCellOf, coshCellOf, sinhRow, coshRow, idealRow, pureRow, departureRow, pairRow, componentRows, allRows, zeroCells, isothermOf}
 use Rattle.gerg.specs.IsothermLaws.{Row, PartRow, IdealRows, Rows, number-in}

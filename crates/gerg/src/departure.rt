@@ -1,9 +1,9 @@
 // The departure terms of a component's pairs with the later components.
 use crate::derivatives::GergDerivatives;
-use crate::mixture::wide;
 use crate::powers;
 use elementary::exp;
 use elementary::power;
+use gerg_model::mixture::wide;
 use gerg_tables::named;
 ghost use mathlib.Core.Path.{_≡_};
 ghost use mathlib.Core.Bool.{false, _||_};

@@ -1,14 +1,14 @@
 // The properties of a homogeneous state, and rows 6 to 12.
-use crate::GergModel;
 use crate::GergState;
 use crate::Range;
 use crate::derivatives::GergDerivatives;
 use crate::helmholtz;
 use crate::helmholtz::HelmholtzAnswer;
 use crate::isotherm;
-use crate::mixture::is_finite;
 use elementary::power;
 use elementary::sqrt;
+use gerg_model::GergModel;
+use gerg_model::mixture::is_finite;
 ghost use mathlib.Core.Path.{_≡_};
 ghost use Rattle.gerg_tables.specs.Tables.{tables, Shaped};
 ghost use Rattle.gerg.specs.Isotherm.{isothermOf};

@@ -1,15 +1,15 @@
 // The nine derivatives at a temperature and a molar density. Powers of tau come from the isotherm's cells, powers of delta
 // with small exponents from an array made once for the density.
-use crate::GergModel;
 use crate::Range;
 use crate::departure;
 use crate::derivatives::GergDerivatives;
 use crate::ideal;
 use crate::isotherm;
-use crate::mixture::is_finite;
 use crate::powers;
 use crate::pure;
 use elementary::ln;
+use gerg_model::GergModel;
+use gerg_model::mixture::is_finite;
 ghost use mathlib.Core.Path.{_≡_};
 ghost use Prim.Native.Nat.{_<_};
 ghost use Rattle.numerics.specs.Double.{_⊘_};

@@ -1,9 +1,9 @@
 // What the derivatives take from the temperature alone: powers of tau and the ideal part's numbers, in the cells of one array.
-use crate::GergModel;
-use crate::mixture::wide;
 use elementary::hyperbolic;
 use elementary::ln;
 use elementary::power;
+use gerg_model::GergModel;
+use gerg_model::mixture::wide;
 use gerg_tables::named;
 ghost use mathlib.Core.Path.{_≡_};
 ghost use mathlib.Core.Bool.{false};

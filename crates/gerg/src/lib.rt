@@ -1,30 +1,12 @@
-// GERG-2008: the mixture model, its Helmholtz derivatives and properties.
-pub mod composition;
+// GERG-2008: the Helmholtz derivatives of a mixture, and its properties.
 pub mod departure;
 pub mod derivatives;
 pub mod evaluate;
-pub mod fugacity;
 pub mod helmholtz;
 pub mod ideal;
 pub mod isotherm;
-pub mod mixture;
 pub mod powers;
 pub mod pure;
-
-// A mixture of fixed composition, between the layers. Its reducing gradients, two rows of 21 numbers, are passed beside it.
-pub struct GergModel {
-    // mole fraction of each of the 21 components
-    pub fractions: [f64; 21],
-    // the listed components in list order, each less 1; the first `components` places count
-    pub component_indices: [u8; 21],
-    pub components: usize,
-    // K
-    pub reducing_temperature: f64,
-    // mol/m³
-    pub reducing_density: f64,
-    // kg/mol
-    pub molar_mass: f64,
-}
 
 // The ends of the range in which the equation is used.
 pub struct Range {

@@ -1,7 +1,7 @@
 // Powers of delta, dampings and their exponentials for small exponents, each worked out once for a density.
-use crate::mixture::wide;
 use elementary::exp;
 use elementary::power as elementary_power;
+use gerg_model::mixture::wide;
 ghost use mathlib.Core.Path.{_≡_};
 ghost use Prim.Native.Nat.{_<_};
 ghost use lib.Ieee.{neg};

@@ -1,8 +1,8 @@
 // The pure terms of a component.
 use crate::derivatives::GergDerivatives;
-use crate::mixture::wide;
 use crate::powers;
 use elementary::power;
+use gerg_model::mixture::wide;
 use gerg_tables::named;
 ghost use mathlib.Core.Path.{_≡_};
 ghost use Prim.Native.Nat.{_+_, _*_, _<_};

@@ -10,7 +10,7 @@ use lib.Ieee.Positive.{positive}
 use lib.ListN.{length}
 use Rattle.numerics.specs.Double.{+0, pick}
 use Rattle.gerg_tables.specs.declared.Tables.{Tables}
-use Rattle.gerg.specs.declared.GergModel.{GergModel}
+use Rattle.gerg_model.specs.declared.GergModel.{GergModel}
 use Rattle.gerg.specs.declared.GergState.{GergState}
 use Rattle.gerg.specs.declared.Range.{Range}
 use Rattle.gerg.specs.declared.derivatives.GergDerivatives.{GergDerivatives}

@@ -1,0 +1,2 @@
+-- Laws of the public calls.
+pub mod Laws

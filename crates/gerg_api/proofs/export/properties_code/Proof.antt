@@ -1,0 +1,26 @@
+-- `gerg_api::export::properties_code` meets its contract. Assumes nothing.
+use Rattle.gerg_api.specs.Calls.{propertiesCode}
+use borrow.Author.Needs.{needs}
+use Rattle.gerg_api.proofs.export.properties_code.Statement.{statement}
+use Rattle.gerg_api.proofs.export.properties_code.Tie as tie
+
+enum-told : tie.Need-enum-told
+enum-told c = search needs
+
+enum-known-answer : tie.Need-enum-known-answer
+enum-known-answer c = search needs
+
+code-requires : tie.Need-code-requires
+code-requires c κs = search needs
+
+returns : tie.Need-returns
+unfolding propertiesCode
+returns c = cc
+
+returns-2 : tie.Need-returns-2
+unfolding propertiesCode
+returns-2 c = cc
+
+pub properties-code-spec : {M : Type 1} → statement M
+properties-code-spec =
+    tie.close (tie.spec enum-told enum-known-answer code-requires returns returns-2)

@@ -1,0 +1,102 @@
+// The public calls for C: number × 2^32 + value, 0 when accepted; a slice is a pointer and a length.
+use crate::PropertiesAnswer;
+use crate::fugacity;
+use crate::properties;
+use gerg::GergState;
+ghost use mathlib.Core.Path.{_≡_};
+ghost use Rattle.gerg_api.specs.Calls as is;
+
+fn code(number: u8, value: usize) -> u64
+    ensures { λ r. ⌜ r ≡ is.codeOf number value ⌝ }
+{
+    (number as u64) * 0x1_0000_0000 + (value as u64) % 0x1_0000_0000
+}
+
+fn properties_code(answer: PropertiesAnswer) -> u64
+    ensures { λ r. ⌜ r ≡ is.propertiesCode answer ⌝ }
+{
+    match answer {
+        PropertiesAnswer::State(_) => 0,
+        PropertiesAnswer::Refused { number, value } => code(number, value),
+    }
+}
+
+// The 24 numbers of a state.
+fn numbers(s: GergState) -> [f64; 24]
+    ensures { λ r. ⌜ r ≡ is.numbersOf s ⌝ }
+{
+    let d = s.derivatives;
+    [
+        s.temperature_k,
+        s.molar_density,
+        s.mass_density,
+        s.pressure_pa,
+        s.compressibility,
+        s.dp_drho,
+        s.dp_dt,
+        s.internal_energy,
+        s.enthalpy,
+        s.entropy,
+        s.cv,
+        s.cp,
+        s.speed_of_sound,
+        s.helmholtz_energy,
+        s.gibbs_energy,
+        d.ar,
+        d.ar_d,
+        d.ar_dd,
+        d.ar_t,
+        d.ar_tt,
+        d.ar_dt,
+        d.a0,
+        d.a0_t,
+        d.a0_tt,
+    ]
+}
+
+fn put_properties(answer: PropertiesAnswer, out: &mut [f64; 24])
+    ensures { λ _. ⌜ now (out .exit) ≡ is.propertiesWritten answer (now (out .entry)) ⌝ }
+{
+    match answer {
+        PropertiesAnswer::State(s) => {
+            *out = numbers(s);
+        }
+        PropertiesAnswer::Refused {
+            number: _,
+            value: _,
+        } => {}
+    }
+}
+
+#[no_mangle]
+pub extern "C" fn gerg_properties(
+    file: &[u8],
+    list: &[u8],
+    fractions: &[f64],
+    t: f64,
+    rho: f64,
+    out: &mut [f64; 24],
+) -> u64
+    ensures answer { λ r. ⌜ r ≡ is.propertiesCode (is.propertiesOf (now (file .entry)) (now (list .entry)) (now (fractions .entry)) t rho) ⌝ }
+    ensures memory { λ r. ⌜ now (out .exit) ≡ is.propertiesWritten (is.propertiesOf (now (file .entry)) (now (list .entry)) (now (fractions .entry)) t rho) (now (out .entry)) ⌝ }
+{
+    let answer = properties::properties(file, list, fractions, t, rho);
+    put_properties(answer, out);
+    properties_code(answer)
+}
+
+#[no_mangle]
+pub extern "C" fn gerg_fugacity(
+    file: &[u8],
+    list: &[u8],
+    fractions: &[f64],
+    t: f64,
+    rho: f64,
+    out: &mut [f64],
+) -> u64
+    ensures answer { λ r. ⌜ r ≡ is.propertiesCode (is.fugacityAnswer (now (file .entry)) (now (list .entry)) (now (fractions .entry)) t rho (now (out .entry))) ⌝ }
+    ensures memory { λ r. ⌜ now (out .exit) ≡ is.fugacityWritten (now (file .entry)) (now (list .entry)) (now (fractions .entry)) t rho (now (out .entry)) ⌝ }
+{
+    let answer = fugacity::fugacity(file, list, fractions, t, rho, out);
+    properties_code(answer)
+}

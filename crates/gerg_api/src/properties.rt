@@ -1,0 +1,63 @@
+// The call `properties`.
+use crate::Mixed;
+use crate::PropertiesAnswer;
+use crate::Refusal;
+use crate::rows;
+use gerg::evaluate;
+use gerg::evaluate::EvaluateAnswer;
+use gerg::helmholtz;
+ghost use mathlib.Core.Path.{_≡_};
+ghost use Rattle.gerg_tables.specs.Tables.{tables, Shaped};
+ghost use Rattle.gerg_api.specs.Calls as is;
+ghost use Rattle.gerg_api.specs.declared.Refusal.the-variants as refusals;
+
+// Rows 6 to 12 in the normal range.
+pub fn evaluated<'a>(
+    doubles: &'a [f64; 4086],
+    integers: &'a [u8; 1631],
+    mixed: Mixed,
+    t: f64,
+    rho: f64,
+) -> EvaluateAnswer
+    requires { ⌜ Shaped (tables (now doubles) (now integers)) ⌝ }
+    ensures { λ r. ⌜ r ≡ is.evaluatedOf (tables (now (doubles .entry)) (now (integers .entry))) mixed t rho ⌝ }
+{
+    let model = mixed.model;
+    evaluate::evaluate(doubles, integers, model, helmholtz::normal_range(), t, rho)
+}
+
+fn stated(answer: EvaluateAnswer) -> PropertiesAnswer
+    ensures { λ r. ⌜ r ≡ is.statedOf answer ⌝ }
+{
+    match answer {
+        EvaluateAnswer::State(s) => PropertiesAnswer::State(s),
+        EvaluateAnswer::Refused(number) => PropertiesAnswer::Refused { number, value: 0 },
+    }
+}
+
+fn properties_from<'a>(
+    doubles: &'a [f64; 4086],
+    integers: &'a [u8; 1631],
+    mixed: Mixed,
+    t: f64,
+    rho: f64,
+) -> PropertiesAnswer
+    requires { ⌜ (mixed .refusal ≡ refusals.Nothing → Shaped (tables (now doubles) (now integers))) ⌝ }
+    ensures { λ r. ⌜ r ≡ is.propertiesFrom (tables (now (doubles .entry)) (now (integers .entry))) mixed t rho ⌝ }
+{
+    let refusal = mixed.refusal;
+    match refusal {
+        Refusal::Nothing => stated(evaluated(doubles, integers, mixed, t, rho)),
+        Refusal::Refused { number, value } => PropertiesAnswer::Refused { number, value },
+    }
+}
+
+// PropertiesAnswer of a mixture at a temperature (K) and a molar density (mol/m³).
+pub fn properties(file: &[u8], list: &[u8], fractions: &[f64], t: f64, rho: f64) -> PropertiesAnswer
+    ensures { λ r. ⌜ r ≡ is.propertiesOf (now (file .entry)) (now (list .entry)) (now (fractions .entry)) t rho ⌝ }
+{
+    let read = gerg_tables::read_tables(file);
+    let answer = read.answer;
+    let mixed = rows::mixed(&read.tables.doubles, answer, list, fractions);
+    properties_from(&read.tables.doubles, &read.tables.integers, mixed, t, rho)
+}

@@ -1,0 +1,4 @@
+-- Fugacity coefficients.
+pub mod Fugacity
+pub mod FugacityPowers
+pub mod FugacityLaws

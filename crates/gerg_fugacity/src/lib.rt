@@ -1,0 +1,3 @@
+// GERG-2008: the fugacity coefficients of a mixture.
+pub mod composition;
+pub mod fugacity;
