@@ -11,4 +11,5 @@ pub mod Whole
 pub mod Signs
 pub mod Ahead
 pub mod Verdict
+pub mod State
 pub mod Turn

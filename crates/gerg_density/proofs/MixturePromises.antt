@@ -36,6 +36,7 @@ use Rattle.gerg_density.specs.declared.DensityAnswer.the-variants.{Accep
 use Rattle.gerg_density.proofs.Laws.Start.{target-positive}
 use Rattle.gerg_density.proofs.Laws.Signs.{Signs, sample-residual}
 use Rattle.gerg_density.proofs.Laws.Verdict.{fair, evaluate-number}
+use Rattle.gerg_density.proofs.Laws.State.{Answered, answered}
 use Rattle.gerg_density.proofs.Promises as any
 
 -- "The computed pressure of a tried double .. is by the trial's formula"
@@ -77,12 +78,17 @@ pub record Collapse (t : Tables) (m : GergModel) (range : Range) (temperature ta
   pub at-high : Computed t m range temperature (neighbours .high)
   pub above : T (lt target (pressureAt at-high))
 
--- an accepted density
+-- an accepted density; `positive` is finite and above zero
 pub record Arrived (t : Tables) (m : GergModel) (range : Range) (temperature target : Float) (o : Options) (l : List Float) (r : DensityResult) : Type 0 where
   pub density : Float
   pub from : T (le (o .bracket .lo) density)
   pub to : T (le density (o .bracket .hi))
   pub state : evaluateOf t m range temperature density ≡ EvaluateAnswer.State (r .state)
+  pub reported : r .state .«molar_density» ≡ density
+  pub pressure-above : T (lt +0 (r .state .«pressure_pa»))
+  pub pressure-at-most : T (le (r .state .«pressure_pa») (range .«pressure_high»))
+  pub stiffness : T (positive (r .state .«dp_drho»))
+  pub cv : T (positive (r .state .cv))
   pub check : beyondOf (o .tolerance) (residualOf target (r .state)) ≡ false
   pub residual : r .residual ≡ residualOf target (r .state)
   pub trials : r .trials ≡ length l
@@ -172,7 +178,8 @@ module _ (t : Tables) (m : GergModel) (range : Range) (temperature target : Floa
       go (Failed j i) e = ap (λ (z : ℕ). Failed z i) (ap number e) ∙ ap (Failed n) (ap value e)
       go (Found x i b) e = state x i b (evaluateOf t m range temperature x) refl e
 
-  -- "An accepted density lies in the given bracket, ends allowed; .. its state's pressure .. meets the tolerance as row 17 tests it"
+  -- "An accepted density lies in the given bracket, ends allowed; its state's pressure is in (0, 35 MPa] and meets the tolerance as row 17 tests it; its stiffness and cv are positive";
+  -- the pressure's upper end as the range has it
   pub arrived : (r : DensityResult) → densityOf t m range temperature target o ≡ Accepted r → Arrived t m range temperature target o (densityTrials t m range temperature target o) r
   unfolding densityOf finishedOf checkedOf
   arrived r e = go (searchOf t m range temperature target o) refl e
@@ -202,11 +209,17 @@ module _ (t : Tables) (m : GergModel) (range : Range) (temperature target : Floa
           tested true w e = clash (ap taken e)
           tested false w e =
               let p = in-bracket x i b s in
+              let a = answered t m range temperature x z q in
               subst (λ (d : DensityResult). Arrived t m range temperature target o l d) (ap (result r) e) (record {
                 density = x;
                 from = p .0;
                 to = p .1;
                 state = q;
+                reported = a .density;
+                pressure-above = a .pressure-above;
+                pressure-at-most = a .pressure-at-most;
+                stiffness = a .stiffness;
+                cv = a .cv;
                 check = w;
                 residual = refl;
                 trials = found-count x i b s;
