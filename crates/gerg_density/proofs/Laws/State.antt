@@ -13,7 +13,7 @@ use lib.Ieee.Positive.{positive}
 use Rattle.numerics.specs.Double.{_⊕_, _⊗_, _⊘_, +0}
 use Rattle.elementary.specs.Power.{powiByteOf}
 use Rattle.gerg_tables.specs.declared.Tables.{Tables}
-use Rattle.gerg.specs.declared.GergModel.{GergModel}
+use Rattle.gerg_model.specs.declared.GergModel.{GergModel}
 use Rattle.gerg.specs.declared.GergState.{GergState}
 use Rattle.gerg.specs.declared.Range.{Range}
 use Rattle.gerg.specs.declared.evaluate.EvaluateAnswer.{EvaluateAnswer}
