@@ -19,7 +19,8 @@ use Rattle.gerg_model.specs.MixtureCheck.{checkOf, Accepted}
 use Rattle.gerg_model.specs.MixtureAccepted.{accepted, listed}
 use Rattle.gerg_model.specs.Mixture.{modelOf, gradientsOf, reducingSound, Listed}
 use Rattle.gerg_api.specs.Mixed.{refusedMixture, soundMixture, reducedMixture, checkedMixture, checkedFrom, afterFile, mixedFrom, mixedOf}
-use Rattle.gerg_api.specs.Calls.{afterRows, memoryRows}
+use Rattle.gerg_density.specs.declared.DensityAnswer.{DensityAnswer}
+use Rattle.gerg_api.specs.Calls.{afterRows, memoryRows, searchedAfter}
 use Rattle.gerg_api.specs.declared.PropertiesAnswer.{PropertiesAnswer}
 use Rattle.gerg_api.specs.declared.Mixed.{Mixed}
 use Rattle.gerg_api.specs.declared.Refusal.{Refusal}
@@ -100,3 +101,7 @@ memory-nothing r out later e = rw e
 
 pub passed-test : {A : Type 0} (b : Bool) (x y : A) → b ≡ false → pick b x y ≡ y
 passed-test b x y e = rw e
+
+pub search-nothing : (r : Refusal) (later : DensityAnswer) → r ≡ Nothing → searchedAfter r later ≡ later
+unfolding searchedAfter
+search-nothing r later e = rw e

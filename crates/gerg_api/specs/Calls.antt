@@ -1,9 +1,10 @@
 -- What the public calls answer and write.
-use mathlib.Core.List.{List, [], _∷_}
+use mathlib.Core.List.{List, [], _∷_, _++_}
 use mathlib.Core.Bool.{Bool}
 use Prim.Native.Nat.{ℕ, _+_, _*_, _%_, _^_}
 use lib.Dec.{ltb}
-use lib.Ieee.{Float}
+use lib.IntN.{pos}
+use lib.Ieee.{Float, binary64, ofInt}
 use lib.ListN.{length}
 use Rattle.numerics.specs.Double.{pick}
 use Rattle.gerg_tables.specs.declared.Tables.{Tables}
@@ -16,6 +17,11 @@ use Rattle.gerg_fugacity.specs.declared.fugacity.FugacityCheck.the-variants as 
 use Rattle.gerg.specs.Helmholtz.{normalRange}
 use Rattle.gerg.specs.Evaluate.{evaluateOf}
 use Rattle.gerg_fugacity.specs.Fugacity.{fugacityOf, fugacityMemory}
+use Rattle.gerg_density.specs.declared.DensityAnswer.{DensityAnswer}
+use Rattle.gerg_density.specs.declared.DensityAnswer.the-variants as density
+use Rattle.gerg_density.specs.declared.DensityResult.{DensityResult}
+use Rattle.gerg_density.specs.declared.Options.{Options}
+use Rattle.gerg_density.specs.Density.{densityOf}
 use Rattle.gerg_api.specs.Mixed.{mixedOf}
 use Rattle.gerg_api.specs.declared.Mixed.{Mixed}
 use Rattle.gerg_api.specs.declared.Refusal.{Refusal}
@@ -107,3 +113,28 @@ numbersOf s =
 unfoldable pub propertiesWritten : PropertiesAnswer → List Float → List Float
 propertiesWritten (answer.State s) out = numbersOf s
 propertiesWritten (answer.Refused number value) out = out
+
+-- the call `density`: rows 1 to 5, then the search in the normal range
+unfoldable pub searchedAfter : Refusal → DensityAnswer → DensityAnswer
+searchedAfter Nothing later = later
+searchedAfter (Refused number value) later = density.Refused number value
+
+unfoldable pub densityFrom : Tables → Mixed → Float → Float → Options → DensityAnswer
+densityFrom t m temperature target options = searchedAfter (m .refusal) (densityOf t (m .model) normalRange temperature target options)
+
+unfoldable pub densityCall : List ℕ → List ℕ → List Float → Float → Float → Options → DensityAnswer
+densityCall bytes list fractions temperature target options = densityFrom (tablesOf bytes) (mixedOf bytes list fractions) temperature target options
+
+unfoldable pub densityCode : DensityAnswer → ℕ
+densityCode (density.Accepted r) = 0
+densityCode (density.Refused number value) = codeOf number value
+
+-- the state's 24 numbers, the residual, the trials, the first bracket, the last bracket
+unfoldable pub densityNumbers : DensityResult → List Float
+densityNumbers r =
+    numbersOf (r .state)
+    ++ (r .residual ∷ ofInt binary64 (pos (r .trials)) ∷ r .first .lo ∷ r .first .hi ∷ r .last .lo ∷ r .last .hi ∷ [])
+
+unfoldable pub densityWritten : DensityAnswer → List Float → List Float
+densityWritten (density.Accepted r) out = densityNumbers r
+densityWritten (density.Refused number value) out = out

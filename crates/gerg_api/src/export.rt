@@ -1,9 +1,13 @@
 // The public calls for C: number × 2^32 + value, 0 when accepted; a slice is a pointer and a length.
 use crate::PropertiesAnswer;
+use crate::density;
 use crate::fugacity;
 use crate::properties;
 use gerg::GergState;
+use gerg_density::DensityAnswer;
+use gerg_density::DensityResult;
 ghost use mathlib.Core.Path.{_≡_};
+ghost use Rattle.gerg_density.specs.Density.{optionsOf};
 ghost use Rattle.gerg_api.specs.Calls as is;
 
 fn code(number: u8, value: usize) -> u64
@@ -99,4 +103,101 @@ pub extern "C" fn gerg_fugacity(
 {
     let answer = fugacity::fugacity(file, list, fractions, t, rho, out);
     properties_code(answer)
+}
+
+fn density_code(answer: DensityAnswer) -> u64
+    ensures { λ r. ⌜ r ≡ is.densityCode answer ⌝ }
+{
+    match answer {
+        DensityAnswer::Accepted(_) => 0,
+        DensityAnswer::Refused { number, value } => code(number, value),
+    }
+}
+
+// A state's 24 numbers, the residual, the trials, the first bracket, the last bracket.
+fn density_numbers(r: DensityResult) -> [f64; 30]
+    ensures { λ n. ⌜ n ≡ is.densityNumbers r ⌝ }
+{
+    let state = r.state;
+    let s = numbers(state);
+    let trials = std::num::nearest_u64_to_f64(r.trials as u64);
+    let first = r.first;
+    let last = r.last;
+    [
+        s[0],
+        s[1],
+        s[2],
+        s[3],
+        s[4],
+        s[5],
+        s[6],
+        s[7],
+        s[8],
+        s[9],
+        s[10],
+        s[11],
+        s[12],
+        s[13],
+        s[14],
+        s[15],
+        s[16],
+        s[17],
+        s[18],
+        s[19],
+        s[20],
+        s[21],
+        s[22],
+        s[23],
+        r.residual,
+        trials,
+        first.lo,
+        first.hi,
+        last.lo,
+        last.hi,
+    ]
+}
+
+fn put_density(answer: DensityAnswer, out: &mut [f64; 30])
+    ensures { λ _. ⌜ now (out .exit) ≡ is.densityWritten answer (now (out .entry)) ⌝ }
+{
+    match answer {
+        DensityAnswer::Accepted(r) => {
+            *out = density_numbers(r);
+        }
+        DensityAnswer::Refused {
+            number: _,
+            value: _,
+        } => {}
+    }
+}
+
+#[no_mangle]
+pub extern "C" fn gerg_density(
+    file: &[u8],
+    list: &[u8],
+    fractions: &[f64],
+    t: f64,
+    target: f64,
+    lo: f64,
+    hi: f64,
+    limit: u64,
+    tolerance: f64,
+    out: &mut [f64; 30],
+) -> u64
+    ensures answer { λ r. ⌜ r ≡ is.densityCode (is.densityCall (now (file .entry)) (now (list .entry)) (now (fractions .entry)) t target (optionsOf lo hi limit tolerance)) ⌝ }
+    ensures memory { λ r. ⌜ now (out .exit) ≡ is.densityWritten (is.densityCall (now (file .entry)) (now (list .entry)) (now (fractions .entry)) t target (optionsOf lo hi limit tolerance)) (now (out .entry)) ⌝ }
+{
+    let answer = density::density(
+        file,
+        list,
+        fractions,
+        t,
+        target,
+        lo,
+        hi,
+        limit as usize,
+        tolerance,
+    );
+    put_density(answer, out);
+    density_code(answer)
 }

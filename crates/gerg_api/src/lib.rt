@@ -2,6 +2,7 @@
 use gerg::GergState;
 use gerg_model::GergModel;
 
+pub mod density;
 pub mod export;
 pub mod fugacity;
 pub mod properties;

@@ -1,0 +1,21 @@
+use mathlib.Core.Path.{_≡_, sym, ap, _∙_}
+use Rattle.gerg_api.specs.Calls.{densityCode}
+use borrow.Author.Needs.{needs}
+use Rattle.gerg_api.proofs.export.gerg_density.Statement.{statement}
+use Rattle.gerg_api.proofs.export.gerg_density.Tie as tie
+
+density-requires : tie.Need-density-requires
+density-requires c κs = search needs
+
+put-density-requires : tie.Need-put-density-requires
+put-density-requires c κs = search needs
+
+density-code-requires : tie.Need-density-code-requires
+density-code-requires c κs = search needs
+
+returns : tie.Need-returns
+returns c = (c .density-code .ensures ∙ ap densityCode (c .before .before .before .density .ensures), rw (c .before .before .before .density .ensures) at (c .before .put-density .ensures))
+
+pub gerg-density-spec : {M : Type 1} → statement M
+gerg-density-spec =
+    tie.close (tie.spec density-requires put-density-requires density-code-requires returns)
