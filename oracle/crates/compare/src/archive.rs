@@ -8,7 +8,9 @@ unsafe extern "C" {
         file: *const u8, file_len: usize, list: *const u8, list_len: usize, x: *const f64, x_len: usize,
         t: f64, target: f64, lo: f64, hi: f64, limit: u64, tolerance: f64, out: *mut f64,
     ) -> u64;
+    #[cfg(feature = "equilibrium")]
     fn gerg_outer_roots(file: *const u8, file_len: usize, list: *const u8, list_len: usize, x: *const f64, x_len: usize, t: f64, p: f64, out: *mut f64, out_len: usize) -> u64;
+    #[cfg(feature = "equilibrium")]
     fn gerg_pure_saturation(
         file: *const u8, file_len: usize, list: *const u8, list_len: usize, x: *const f64, x_len: usize,
         p: f64, lo: f64, hi: f64, limit: u64, out: *mut f64,
@@ -39,8 +41,12 @@ pub fn answer(file: &[u8], case: &Case) -> Answer {
             Call::Properties { t, rho } => gerg_properties(f, fl, l, ll, xp, xl, t, rho, o),
             Call::Fugacity { t, rho } => gerg_fugacity(f, fl, l, ll, xp, xl, t, rho, o, ol),
             Call::Density { t, target, lo, hi, limit, tolerance } => gerg_density(f, fl, l, ll, xp, xl, t, target, lo, hi, limit, tolerance, o),
+            #[cfg(feature = "equilibrium")]
             Call::Roots { t, p } => gerg_outer_roots(f, fl, l, ll, xp, xl, t, p, o, ol),
+            #[cfg(feature = "equilibrium")]
             Call::Saturation { p, lo, hi, limit } => gerg_pure_saturation(f, fl, l, ll, xp, xl, p, lo, hi, limit, o),
+            #[cfg(not(feature = "equilibrium"))]
+            Call::Roots { .. } | Call::Saturation { .. } => panic!("the archive has no roots and saturation yet"),
         }
     };
     Answer { number: (code >> 32) as u32, value: code as u32, out }
