@@ -1,2 +1,3 @@
 -- Laws of the public calls.
 pub mod Laws
+pub mod Cases
