@@ -1,14 +1,13 @@
 //! The commands but for `curve`.
 use crate::arguments::{Arguments, USAGE};
 use crate::format::{decimal, exact, quoted};
-use crate::report::{Group, Report, Row, count, row};
+use crate::report::{Group, Heading, Report, Row, count, heading, row};
+use crate::lightest::{LIMIT, TOLERANCE};
 use crate::{Fault, curve, lightest};
-use gerg::{Cause, Component, Density, Mixture, Refusal, Search, State};
+use gerg::{Cause, Component, Density, Mixture, Refusal, Saturation, Search, State};
 use std::io::Read;
 use std::path::Path;
 
-const LIMIT: u64 = 100;
-const TOLERANCE: f64 = 1e-10;
 const SATURATION_ENDS: [f64; 2] = [230.0, 350.0];
 const OUTPUT: [&str; 3] = ["--file", "--json", "--bits"];
 
@@ -54,7 +53,10 @@ fn read(path: &str) -> Result<Vec<u8>, Fault> {
 /// data/gerg-2008.bin here, else the one of the repository that the program was built in.
 fn default_path() -> String {
     let here = "data/gerg-2008.bin";
-    if Path::new(here).exists() { here.into() } else { gerg::DEFAULT_FILE.into() }
+    if Path::new(here).exists() {
+        return here.into();
+    }
+    std::fs::canonicalize(gerg::DEFAULT_FILE).map_or(gerg::DEFAULT_FILE.into(), |path| path.display().to_string())
 }
 
 impl Input {
@@ -75,8 +77,14 @@ impl Input {
         format!("{} ({} bytes{})", self.path, self.file.len(), if self.given { "" } else { "; the default" })
     }
 
-    fn heading(&self, state: String) -> Vec<(&'static str, String)> {
-        vec![("coefficients", self.coefficients()), ("mixture", self.described()), ("state", state)]
+    fn heading(&self, asked: String) -> Vec<Heading> {
+        let parts = self.mixture.components().iter().zip(self.mixture.fractions());
+        let parts: Vec<String> = parts.map(|(component, x)| format!("{}:{}", quoted(component.name()), exact(*x))).collect();
+        vec![
+            Heading { key: "file", name: "coefficients", text: self.coefficients(), json: quoted(&self.path) },
+            Heading { key: "mixture", name: "mixture", text: self.described(), json: format!("{{{}}}", parts.join(",")) },
+            heading("asked", "state", asked),
+        ]
     }
 
     /// The refusal in one line that says what and where, and as JSON.
@@ -172,7 +180,7 @@ fn search_rows(found: &Density) -> Vec<Row> {
 }
 
 fn upward() -> String {
-    format!("no bracket given: upward from a quarter of the ideal gas's density in steps of {}, ", lightest::STEP)
+    format!("upward from a quarter of the ideal gas's density in steps of {} (no bracket given): ", lightest::STEP)
 }
 
 /// The state at --t and --rho, or at --t and --p; with how its density was had.
@@ -188,7 +196,7 @@ fn state_at(arguments: &Arguments, input: &Input) -> Result<(State, String, Opti
             let asked = format!("T = {} K, p = {} Pa", exact(t), exact(p));
             let found = lightest::density(&input.file, &input.mixture, t, p, LIMIT, TOLERANCE).map_err(|r| input.refused(r, &asked, arguments))?;
             let [lo, hi] = found.first_bracket;
-            let how = format!("{}found in {} .. {} mol/m³, tolerance {TOLERANCE:e}", upward(), decimal(lo), decimal(hi));
+            let how = format!("{}bracket {} .. {} mol/m³, limit {LIMIT}, tolerance {TOLERANCE:e}", upward(), decimal(lo), decimal(hi));
             Ok((found.state, asked, Some(how)))
         }
         (Some(_), Some(_)) => Err(arguments.fault("--rho and --p are both given; one fixes the other")),
@@ -199,9 +207,9 @@ fn state_at(arguments: &Arguments, input: &Input) -> Result<(State, String, Opti
 fn properties(arguments: &Arguments) -> Result<String, Fault> {
     let input = Input::read(arguments)?;
     let (state, asked, how) = state_at(arguments, &input)?;
-    let mut heading = input.heading(asked);
-    heading.extend(how.map(|how| ("density", how)));
-    written(arguments, Report { heading, groups: state_groups(arguments, &state) })
+    let mut above = input.heading(asked);
+    above.extend(how.map(|how| heading("how", "density", how)));
+    written(arguments, Report { heading: above, groups: state_groups(arguments, &state) })
 }
 
 fn coefficient_rows(mixture: &Mixture, ln_phi: &[f64]) -> Vec<Row> {
@@ -212,11 +220,11 @@ fn fugacity(arguments: &Arguments) -> Result<String, Fault> {
     let input = Input::read(arguments)?;
     let (state, asked, how) = state_at(arguments, &input)?;
     let ln_phi = gerg::fugacity(&input.file, &input.mixture, state.temperature, state.molar_density).map_err(|r| input.refused(r, &asked, arguments))?;
-    let mut heading = input.heading(asked);
-    heading.extend(how.map(|how| ("density", how)));
+    let mut above = input.heading(asked);
+    above.extend(how.map(|how| heading("how", "density", how)));
     let mut rows = vec![row("molar_density", "molar density", state.molar_density, "mol/m³")];
     rows.extend(coefficient_rows(&input.mixture, &ln_phi));
-    written(arguments, Report { heading, groups: vec![Group { key: "fugacity", title: "fugacity coefficients".into(), rows, many: false }] })
+    written(arguments, Report { heading: above, groups: vec![Group { key: "fugacity", title: "fugacity coefficients".into(), rows, many: false }] })
 }
 
 fn density(arguments: &Arguments) -> Result<String, Fault> {
@@ -236,11 +244,11 @@ fn density(arguments: &Arguments) -> Result<String, Fault> {
         "{}bracket {} .. {} mol/m³, limit {limit}{}, tolerance {tolerance:e}{}",
         if bracket.is_some() { String::new() } else { upward() }, decimal(lo), decimal(hi), default("--limit"), default("--tolerance"),
     );
-    let mut heading = input.heading(asked);
-    heading.push(("search", how));
+    let mut above = input.heading(asked);
+    above.push(heading("how", "search", how));
     let mut groups = state_groups(arguments, &found.state);
     groups.push(Group { key: "search", title: "search".into(), rows: search_rows(&found), many: false });
-    written(arguments, Report { heading, groups })
+    written(arguments, Report { heading: above, groups })
 }
 
 fn roots(arguments: &Arguments) -> Result<String, Fault> {
@@ -269,14 +277,18 @@ fn saturation(arguments: &Arguments) -> Result<String, Fault> {
     let asked = format!("p = {} Pa", exact(p));
     let found = gerg::pure_saturation(&input.file, &input.mixture, p, ends, limit).map_err(|r| input.refused(r, &asked, arguments))?;
     let default = |is: bool| if is { " (the default)" } else { "" };
-    let mut heading = input.heading(asked);
-    heading.push(("search", format!(
-        "{} .. {} K{}, limit {limit}{}", exact(ends[0]), exact(ends[1]), default(given.is_none()), default(arguments.text("--limit").is_none()),
-    )));
+    let mut above = input.heading(asked);
+    let limits = [default(given.is_none()), default(arguments.text("--limit").is_none())];
+    above.push(heading("how", "search", format!("{} .. {} K{}, limit {limit}{}", exact(ends[0]), exact(ends[1]), limits[0], limits[1])));
     let Some(s) = found else {
-        heading.push(("answer", "not enclosed: no saturation temperature between these ends".into()));
-        return written(arguments, Report { heading, groups: Vec::new() });
+        above.push(Heading { json: "false".into(), ..heading("enclosed", "answer", "not enclosed: no saturation found between these ends".into()) });
+        return written(arguments, Report { heading: above, groups: Vec::new() });
     };
+    above.push(Heading { json: "true".into(), ..heading("enclosed", "answer", "found".into()) });
+    written(arguments, Report { heading: above, groups: vec![saturation_group(&s)] })
+}
+
+fn saturation_group(s: &Saturation) -> Group {
     let rows = vec![
         row("temperature", "temperature", s.temperature, "K"),
         row("pressure", "pressure", s.pressure, "Pa"),
@@ -288,5 +300,5 @@ fn saturation(arguments: &Arguments) -> Result<String, Fault> {
         row("residual", "difference of ln phi", s.residual, ""),
         count("trials", "trials", s.iterations),
     ];
-    written(arguments, Report { heading, groups: vec![Group { key: "saturation", title: "saturation".into(), rows, many: false }] })
+    Group { key: "saturation", title: "saturation".into(), rows, many: false }
 }

@@ -1,7 +1,8 @@
 //! `gerg curve`: density and speed of sound over pressure at one temperature, as CSV and as a picture.
 //!
 //! The density at a pressure is the lightest exterior root where the components, temperature and pressure allow roots, else the lightest
-//! density found by the search (lightest.rs). The column `by` says which. A refused point has its number and no values.
+//! density found by the search (lightest.rs). The column `by` says which. No phase is claimed: where a point has several roots, the lightest
+//! need not be the stable one, and where the vapour's branch has ended, the lightest is a liquid's. A refused point has its number and no values.
 use crate::arguments::Arguments;
 use crate::commands::Input;
 use crate::format::exact;
@@ -10,14 +11,13 @@ use crate::{Fault, lightest};
 use gerg::{Refusal, State};
 use std::time::{Duration, Instant};
 
-const LIMIT: u64 = 100;
-const TOLERANCE: f64 = 1e-10;
 /// Nothing is said of progress before this.
 const QUIET: Duration = Duration::from_secs(2);
 
 struct Point {
     p: f64,
-    by: &'static str,
+    /// How many exterior roots there were, where the density is one of them.
+    roots: Option<usize>,
     state: Result<State, Refusal>,
 }
 
@@ -25,11 +25,13 @@ fn point(input: &Input, t: f64, p: f64) -> Point {
     let (file, mixture) = (&input.file, &input.mixture);
     let by_root = mixture.components().iter().all(|each| each.has_roots()) && (230.0..=350.0).contains(&t) && (1e5..=1e7).contains(&p);
     if by_root {
-        let state = gerg::outer_roots(file, mixture, t, p).and_then(|roots| gerg::properties(file, mixture, t, roots[0].molar_density));
-        return Point { p, by: "root", state };
+        let roots = gerg::outer_roots(file, mixture, t, p);
+        let count = roots.as_ref().map_or(0, Vec::len);
+        let state = roots.and_then(|roots| gerg::properties(file, mixture, t, roots[0].molar_density));
+        return Point { p, roots: Some(count), state };
     }
-    let state = lightest::density(file, mixture, t, p, LIMIT, TOLERANCE).map(|found| found.state);
-    Point { p, by: "search", state }
+    let state = lightest::density(file, mixture, t, p, lightest::LIMIT, lightest::TOLERANCE).map(|found| found.state);
+    Point { p, roots: None, state }
 }
 
 fn points(input: &Input, t: f64, pressures: &[f64]) -> Vec<Point> {
@@ -47,8 +49,9 @@ fn points(input: &Input, t: f64, pressures: &[f64]) -> Vec<Point> {
 }
 
 fn csv(points: &[Point]) -> String {
-    let mut out = String::from("pressure_pa,molar_density_mol_m3,mass_density_kg_m3,compressibility,speed_of_sound_m_s,by,refusal\n");
-    for Point { p, by, state } in points {
+    let mut out = String::from("pressure_pa,molar_density_mol_m3,mass_density_kg_m3,compressibility,speed_of_sound_m_s,by,roots,refusal\n");
+    for Point { p, roots, state } in points {
+        let by = roots.map_or("search,".to_string(), |count| format!("root,{count}"));
         out += &match state {
             Ok(s) => {
                 let [rho, mass, z, sound] = [s.molar_density, s.mass_density, s.compressibility, s.speed_of_sound].map(exact);
@@ -122,11 +125,15 @@ pub fn run(arguments: &Arguments) -> Result<String, Fault> {
     let (csv_path, svg_path) = (format!("{name}.csv"), format!("{name}.svg"));
     write(&csv_path, &csv(&points))?;
     write(&svg_path, &svg(&input, t, [from, to], &points))?;
-    let by_root = points.iter().filter(|point| point.by == "root").count();
+    let by_root = points.iter().filter(|point| point.roots.is_some()).count();
     let mut text = format!(
         "coefficients  {}\nmixture       {}\nisotherm      T = {} K, {count} pressures from {} to {} Pa\ndensity       by the lightest exterior root at {by_root} points, by the search upward at {}\n",
         input.coefficients(), input.described(), exact(t), exact(from), exact(to), count - by_root,
     );
+    let several = points.iter().filter(|point| point.roots.is_some_and(|count| count > 1)).count();
+    if several > 0 {
+        text += &format!("              {several} points have several roots: the lightest need not be the stable state\n");
+    }
     if !refused.is_empty() {
         let numbers: std::collections::BTreeSet<u32> = refused.iter().filter_map(|point| point.state.err()).map(|r| r.number()).collect();
         text += &format!("refused       {} points, numbers {numbers:?}: left out of the picture, without values in the CSV\n", refused.len());

@@ -1,6 +1,9 @@
 //! The density at a pressure where the caller gives no bracket.
 use gerg::{Cause, Density, GAS_CONSTANT, Mixture, Refusal, Search};
 
+/// The defaults of a search.
+pub const LIMIT: u64 = 100;
+pub const TOLERANCE: f64 = 1e-10;
 /// Each bracket reaches this much above the one before.
 pub const STEP: f64 = 1.1;
 

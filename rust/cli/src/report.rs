@@ -32,14 +32,27 @@ pub struct Group {
 
 /// What was asked and how, then the answer.
 pub struct Report {
-    pub heading: Vec<(&'static str, String)>,
+    pub heading: Vec<Heading>,
     pub groups: Vec<Group>,
+}
+
+/// A line above the table; in JSON a member under `key`, its text there already JSON.
+pub struct Heading {
+    pub key: &'static str,
+    pub name: &'static str,
+    pub text: String,
+    pub json: String,
+}
+
+/// A heading that says the same in both.
+pub fn heading(key: &'static str, name: &'static str, text: String) -> Heading {
+    Heading { key, name, json: quoted(&text), text }
 }
 
 impl Report {
     pub fn table(&self, as_bits: bool) -> String {
-        let width = self.heading.iter().map(|(name, _)| name.len()).max().unwrap_or(0);
-        let mut out: String = self.heading.iter().map(|(name, text)| format!("{name:width$}  {text}\n")).collect();
+        let width = self.heading.iter().map(|line| line.name.len()).max().unwrap_or(0);
+        let mut out: String = self.heading.iter().map(|line| format!("{:width$}  {}\n", line.name, line.text)).collect();
         for group in &self.groups {
             out.push_str(&format!("\n{}\n", group.title));
             out.push_str(&lines(&group.rows, as_bits));
@@ -48,7 +61,7 @@ impl Report {
     }
 
     pub fn json(&self, as_bits: bool) -> String {
-        let mut members: Vec<String> = self.heading.iter().map(|(name, text)| format!("{}:{}", quoted(name), quoted(text))).collect();
+        let mut members: Vec<String> = self.heading.iter().map(|line| format!("{}:{}", quoted(line.key), line.json)).collect();
         let object = |group: &Group| {
             let rows = group.rows.iter().map(|row| format!("{}:{}", quoted(&row.key), json_value(&row.value, as_bits)));
             format!("{{{}}}", rows.collect::<Vec<_>>().join(","))

@@ -28,9 +28,10 @@ fn ticks(lo: f64, hi: f64) -> (Vec<f64>, usize) {
     ((first..=last).map(|k| k as f64 * step).collect(), decimals)
 }
 
+/// Broken behind commas, so that a name and its fraction stay together.
 fn wrapped(text: &str) -> Vec<String> {
     let mut lines = vec![String::new()];
-    for word in text.split(' ') {
+    for word in text.split_inclusive([',', ';']).map(str::trim) {
         let full = lines.last().is_some_and(|line| !line.is_empty() && line.chars().count() + 1 + word.chars().count() > FIT);
         if full {
             lines.push(String::new());

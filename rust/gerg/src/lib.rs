@@ -10,7 +10,7 @@
 //! let file = std::fs::read(gerg::DEFAULT_FILE).unwrap();
 //! let gas = Mixture::new([(Methane, 0.9), (Ethane, 0.1)]);
 //! let found = gerg::density(&file, &gas, 293.15, 5e6, Search::between(1000.0, 4000.0)).unwrap();
-//! assert!((found.state.speed_of_sound - 399.2).abs() < 0.1);
+//! assert!((found.state.speed_of_sound - 405.96).abs() < 0.1);
 //!
 //! let refused = gerg::properties(&file, &gas, 199.0, 1000.0).unwrap_err();
 //! assert_eq!(refused.number(), 8);
