@@ -93,12 +93,12 @@ impl Input {
         let place = refusal.value as usize;
         let at = |k: usize| format!("part {} of --mix, {}={}", k + 1, listed[k], exact(x[k]));
         let place = match refusal.cause {
-            Cause::BadFile | Cause::BadTable => Some(format!("{}, {}", self.path, refusal.place().unwrap_or_default())),
+            Cause::BadFile | Cause::BadTable => Some(format!("{}, {}", self.path, refusal.detail().unwrap_or_default())),
             Cause::BadList if place < listed.len() => Some(at(place)),
             Cause::BadFractions if place < listed.len() => Some(at(place)),
             Cause::BadFractions => Some(format!("they add up to {}", exact(x.iter().fold(0.0, |sum, v| sum + v)))),
             Cause::TrialUnstable => Some(format!("{asked}; see --lo, --hi and gerg roots")),
-            _ => Some([Some(asked.to_string()), refusal.place()].into_iter().flatten().collect::<Vec<_>>().join("; ")),
+            _ => Some([Some(asked.to_string()), refusal.detail()].into_iter().flatten().collect::<Vec<_>>().join("; ")),
         };
         refusal_fault(refusal, &place.unwrap_or_default(), arguments)
     }
@@ -120,7 +120,7 @@ fn check(arguments: &Arguments) -> Result<String, Fault> {
         return Err(arguments.fault("one file is needed: gerg check FILE"));
     };
     let file = read(path)?;
-    gerg::check(&file).map_err(|refusal| refusal_fault(refusal, &format!("{path}, {}", refusal.place().unwrap_or_default()), arguments))?;
+    gerg::check(&file).map_err(|refusal| refusal_fault(refusal, &format!("{path}, {}", refusal.detail().unwrap_or_default()), arguments))?;
     let bytes = file.len();
     Ok(if arguments.has("--json") {
         format!("{{\"file\":{},\"accepted\":true,\"bytes\":{bytes}}}\n", quoted(path))

@@ -79,7 +79,7 @@ impl Refusal {
     }
 
     /// What the value says, where the cause has one.
-    pub fn place(&self) -> Option<String> {
+    pub fn detail(&self) -> Option<String> {
         let value = self.value;
         match self.cause {
             Cause::BadFile => Some(format!("at byte {value}")),
@@ -99,8 +99,8 @@ impl Refusal {
 impl fmt::Display for Refusal {
     fn fmt(&self, f: &mut fmt::Formatter<'_>) -> fmt::Result {
         write!(f, "refused, number {}: {}", self.number(), self.cause.words())?;
-        match self.place() {
-            Some(place) => write!(f, " ({place})"),
+        match self.detail() {
+            Some(detail) => write!(f, " ({detail})"),
             None => Ok(()),
         }
     }
