@@ -12,7 +12,7 @@ GERG-2008 gas properties. Units: K, Pa, mol/m³.
   gerg roots      --mix MIX --t T --p P                   exterior roots; methane, nitrogen, carbon-dioxide, ethane, propane
   gerg saturation --mix MIX --p P [--lo T --hi T] [--limit N]
   gerg curve      --mix MIX --t T [--from P] [--to P] [--points N] [--out NAME]
-                  density and speed of sound over pressure: NAME.csv and NAME.svg
+                  density and speed of sound over pressure, 100 points from 1e5 to 1e7 Pa, in curve.csv and curve.svg, if not said otherwise
   gerg check FILE                                         is a coefficient file accepted?
   gerg components                                         names and numbers
 

@@ -90,17 +90,15 @@ impl Input {
     /// The refusal in one line that says what and where, and as JSON.
     pub fn refused(&self, refusal: Refusal, asked: &str, arguments: &Arguments) -> Fault {
         let (x, listed) = (self.mixture.fractions(), self.mixture.components());
-        let place = refusal.value as usize;
-        let at = |k: usize| format!("part {} of --mix, {}={}", k + 1, listed[k], exact(x[k]));
+        let part = refusal.value as usize;
         let place = match refusal.cause {
-            Cause::BadFile | Cause::BadTable => Some(format!("{}, {}", self.path, refusal.detail().unwrap_or_default())),
-            Cause::BadList if place < listed.len() => Some(at(place)),
-            Cause::BadFractions if place < listed.len() => Some(at(place)),
-            Cause::BadFractions => Some(format!("they add up to {}", exact(x.iter().fold(0.0, |sum, v| sum + v)))),
-            Cause::TrialUnstable => Some(format!("{asked}; see --lo, --hi and gerg roots")),
-            _ => Some([Some(asked.to_string()), refusal.detail()].into_iter().flatten().collect::<Vec<_>>().join("; ")),
+            Cause::BadFile | Cause::BadTable => format!("{}, {}", self.path, refusal.detail().unwrap_or_default()),
+            Cause::BadList | Cause::BadFractions if part < listed.len() => format!("part {} of --mix, {}={}", part + 1, listed[part], exact(x[part])),
+            Cause::BadFractions => format!("they add up to {}", exact(x.iter().fold(0.0, |sum, v| sum + v))),
+            Cause::TrialUnstable => format!("{asked}; see --lo, --hi and gerg roots"),
+            _ => [Some(asked.to_string()), refusal.detail()].into_iter().flatten().collect::<Vec<_>>().join("; "),
         };
-        refusal_fault(refusal, &place.unwrap_or_default(), arguments)
+        refusal_fault(refusal, &place, arguments)
     }
 }
 
