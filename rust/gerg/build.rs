@@ -1,5 +1,17 @@
 //! Finds the proved archive: in the folder that RATTLE_ARCHIVES names, else in the repository's target/staticlib.
-use std::path::PathBuf;
+use std::path::{Path, PathBuf};
+
+const EXPORTS: [&str; 5] = ["gerg_properties", "gerg_fugacity", "gerg_density", "gerg_outer_roots", "gerg_pure_saturation"];
+
+/// What is wrong with the archive, if anything. Its table of symbols has each name with a zero byte behind it.
+fn fault(archive: &Path) -> Option<String> {
+    let Ok(bytes) = std::fs::read(archive) else {
+        return Some(format!("there is no {}", archive.display()));
+    };
+    let has = |name: &str| bytes.windows(name.len() + 1).any(|part| part.strip_suffix(&[0]) == Some(name.as_bytes()));
+    let absent: Vec<&str> = EXPORTS.into_iter().filter(|name| !has(name)).collect();
+    (!absent.is_empty()).then(|| format!("{} has no {}: it is older than this crate", archive.display(), absent.join(", ")))
+}
 
 fn main() {
     println!("cargo:rerun-if-env-changed=RATTLE_ARCHIVES");
@@ -10,9 +22,9 @@ fn main() {
     };
     let archive = folder.join("libgerg_api.a");
     println!("cargo:rerun-if-changed={}", archive.display());
-    if !archive.is_file() {
+    if let Some(fault) = fault(&archive) {
         let root = root.canonicalize().unwrap_or(root);
-        eprintln!("there is no {}", archive.display());
+        eprintln!("{fault}");
         eprintln!("make it with:   cd {} && rt staticlib gerg_api", root.display());
         eprintln!("or name the folder that has it:   RATTLE_ARCHIVES=FOLDER cargo ..");
         std::process::exit(1);
