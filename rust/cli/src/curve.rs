@@ -109,6 +109,24 @@ fn write(path: &str, text: &str) -> Result<(), Fault> {
     std::fs::write(path, text).map_err(|error| Fault::usage(format!("{path}: {error}")))
 }
 
+/// What was computed and how, and what a reader of the picture should know.
+fn summary(input: &Input, isotherm: String, points: &[Point]) -> String {
+    let by_root = points.iter().filter(|point| point.roots.is_some()).count();
+    let several = points.iter().filter(|point| point.roots.is_some_and(|count| count > 1)).count();
+    let refusals: Vec<u32> = points.iter().filter_map(|point| point.state.err()).map(|refusal| refusal.number()).collect();
+    let how = format!("by the lightest exterior root at {by_root} points, by the search upward at {}", points.len() - by_root);
+    let mut lines = vec![("coefficients", input.coefficients()), ("mixture", input.described()), ("isotherm", isotherm), ("density", how)];
+    if several > 0 {
+        lines.push(("roots", format!("{several} points have several: the lightest need not be the stable state")));
+    }
+    if !refusals.is_empty() {
+        let numbers = std::collections::BTreeSet::from_iter(&refusals);
+        let left = "left out of the picture, without values in the CSV";
+        lines.push(("refused", format!("{} points, numbers {numbers:?}: {left}", refusals.len())));
+    }
+    lines.iter().map(|(name, text)| format!("{name:12}  {text}\n")).collect()
+}
+
 pub fn run(arguments: &Arguments) -> Result<String, Fault> {
     let input = Input::read(arguments)?;
     let t = arguments.needed("--t")?;
@@ -117,26 +135,13 @@ pub fn run(arguments: &Arguments) -> Result<String, Fault> {
     let pressure = |k: usize| if k == last { to } else { from + (to - from) * (k as f64 / last as f64) };
     let pressures: Vec<f64> = (0..count).map(pressure).collect();
     let points = points(&input, t, &pressures);
-    let refused: Vec<&Point> = points.iter().filter(|point| point.state.is_err()).collect();
-    if let (true, Some(Point { p, state: Err(refusal), .. })) = (refused.len() == count, points.first()) {
-        return Err(input.refused(*refusal, &format!("T = {} K, p = {} Pa, and every other point", exact(t), exact(*p)), arguments));
+    if let (true, Err(refusal)) = (points.iter().all(|point| point.state.is_err()), points[0].state) {
+        return Err(input.refused(refusal, &format!("T = {} K, p = {} Pa, and every other point", exact(t), exact(from)), arguments));
     }
     let name = arguments.text("--out").unwrap_or("curve");
     let (csv_path, svg_path) = (format!("{name}.csv"), format!("{name}.svg"));
     write(&csv_path, &csv(&points))?;
     write(&svg_path, &svg(&input, t, [from, to], &points))?;
-    let by_root = points.iter().filter(|point| point.roots.is_some()).count();
-    let mut text = format!(
-        "coefficients  {}\nmixture       {}\nisotherm      T = {} K, {count} pressures from {} to {} Pa\ndensity       by the lightest exterior root at {by_root} points, by the search upward at {}\n",
-        input.coefficients(), input.described(), exact(t), exact(from), exact(to), count - by_root,
-    );
-    let several = points.iter().filter(|point| point.roots.is_some_and(|count| count > 1)).count();
-    if several > 0 {
-        text += &format!("              {several} points have several roots: the lightest need not be the stable state\n");
-    }
-    if !refused.is_empty() {
-        let numbers: std::collections::BTreeSet<u32> = refused.iter().filter_map(|point| point.state.err()).map(|r| r.number()).collect();
-        text += &format!("refused       {} points, numbers {numbers:?}: left out of the picture, without values in the CSV\n", refused.len());
-    }
-    Ok(text + &format!("written       {csv_path}, {svg_path}\n"))
+    let isotherm = format!("T = {} K, {count} pressures from {} to {} Pa", exact(t), exact(from), exact(to));
+    Ok(summary(&input, isotherm, &points) + &format!("written       {csv_path}, {svg_path}\n"))
 }
