@@ -17,9 +17,9 @@ const LINE: f64 = 16.0;
 /// Characters of the small text that fit the width.
 const FIT: usize = 118;
 
-/// Ticks at multiples of 1, 2 or 5 times a power of ten that cover [lo, hi], six or so, and how many decimals they need.
-fn ticks(lo: f64, hi: f64) -> (Vec<f64>, usize) {
-    let rough = (hi - lo).max(hi.abs() * 1e-6).max(1e-12) / 6.0;
+/// Ticks at multiples of 1, 2 or 5 times a power of ten that cover [lo, hi], at most some `most`, and how many decimals they need.
+fn ticks(lo: f64, hi: f64, most: f64) -> (Vec<f64>, usize) {
+    let rough = (hi - lo).max(hi.abs() * 1e-6).max(1e-12) / most;
     let power = rough.log10().floor();
     let base = 10f64.powf(power);
     let step = base * [1.0, 2.0, 5.0, 10.0].into_iter().find(|m| m * base >= rough * 0.999).unwrap_or(10.0);
@@ -76,7 +76,7 @@ impl Scale {
 fn panel(out: &mut String, panel: &Panel, top: f64, (p_ticks, p_decimals, x): (&[f64], usize, &Scale)) {
     let bottom = top + PANEL;
     let values = || panel.lines.iter().flatten().map(|(_, v)| *v);
-    let (y_ticks, decimals) = ticks(values().fold(f64::INFINITY, f64::min), values().fold(f64::NEG_INFINITY, f64::max));
+    let (y_ticks, decimals) = ticks(values().fold(f64::INFINITY, f64::min), values().fold(f64::NEG_INFINITY, f64::max), 6.0);
     let y = Scale::of(&y_ticks, [bottom, top]);
     for tick in p_ticks {
         line(out, [x.at(*tick), top, x.at(*tick), bottom], "#dddddd");
@@ -116,7 +116,7 @@ pub fn picture(title: &str, small: &str, range: [f64; 2], panels: &[Panel]) -> S
     for (k, words) in small.iter().enumerate() {
         text(&mut out, LEFT, 48.0 + LINE * k as f64, "font-size=\"12\" fill=\"#555555\"", words);
     }
-    let (p_ticks, p_decimals) = ticks(range[0], range[1]);
+    let (p_ticks, p_decimals) = ticks(range[0], range[1], 8.0);
     let x = Scale::of(&p_ticks, [LEFT, WIDTH - RIGHT]);
     for (k, each) in panels.iter().enumerate() {
         panel(&mut out, each, head + k as f64 * (PANEL + GAP), (&p_ticks, p_decimals, &x));
