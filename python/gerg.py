@@ -129,7 +129,7 @@ _EXPORTS = {
     "gerg_outer_roots": [_F, _F, _DOUBLES, _LENGTH],
     "gerg_pure_saturation": [_F, _F, _F, _N, _DOUBLES],
 }
-_loaded = None
+_loaded = {}
 
 
 def _shared_library():
@@ -146,15 +146,17 @@ def _shared_library():
     return shared
 
 
-def _library():
-    global _loaded
-    if _loaded is None:
-        library = ctypes.CDLL(_shared_library())
-        for name, arguments in _EXPORTS.items():
-            export = getattr(library, name)
-            export.argtypes, export.restype = _MIXTURE + arguments, ctypes.c_uint64
-        _loaded = library
-    return _loaded
+def _export(name):
+    if name not in _loaded:
+        export = getattr(ctypes.CDLL(_shared_library()), name)
+        export.argtypes, export.restype = _MIXTURE + _EXPORTS[name], ctypes.c_uint64
+        _loaded[name] = export
+    return _loaded[name]
+
+
+def has_export(name):
+    """Whether the archive has an export, as "gerg_density". Calling one that is absent raises AttributeError."""
+    return hasattr(ctypes.CDLL(_shared_library()), name)
 
 
 def read(path=DEFAULT_FILE):
@@ -180,7 +182,7 @@ def _call(name, file, mixture, *arguments):
     pairs = _pairs(mixture)
     numbers = bytes(_number(component) for component, _ in pairs)
     fractions = (ctypes.c_double * len(pairs))(*(x for _, x in pairs))
-    answer = getattr(_library(), name)(file, len(file), numbers, len(numbers), fractions, len(pairs), *arguments)
+    answer = _export(name)(file, len(file), numbers, len(numbers), fractions, len(pairs), *arguments)
     number, value = answer >> 32, answer & 0xFFFFFFFF
     if number:
         raise Refusal(number, value)

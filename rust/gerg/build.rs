@@ -1,16 +1,16 @@
 //! Finds the proved archive: in the folder that RATTLE_ARCHIVES names, else in the repository's target/staticlib.
-use std::path::{Path, PathBuf};
+use std::path::PathBuf;
 
 const EXPORTS: [&str; 5] = ["gerg_properties", "gerg_fugacity", "gerg_density", "gerg_outer_roots", "gerg_pure_saturation"];
 
-/// What is wrong with the archive, if anything. Its table of symbols has each name with a zero byte behind it.
-fn fault(archive: &Path) -> Option<String> {
-    let Ok(bytes) = std::fs::read(archive) else {
-        return Some(format!("there is no {}", archive.display()));
-    };
-    let has = |name: &str| bytes.windows(name.len() + 1).any(|part| part.strip_suffix(&[0]) == Some(name.as_bytes()));
-    let absent: Vec<&str> = EXPORTS.into_iter().filter(|name| !has(name)).collect();
-    (!absent.is_empty()).then(|| format!("{} has no {}: it is older than this crate", archive.display(), absent.join(", ")))
+/// A cfg of its name for each export that the archive has, and the others' names for `gerg::ABSENT`. The archive's table of symbols has each name
+/// with a zero byte behind it.
+fn exports(archive: &[u8]) {
+    let has = |name: &str| archive.windows(name.len() + 1).any(|part| part.strip_suffix(&[0]) == Some(name.as_bytes()));
+    let (present, absent): (Vec<&str>, Vec<&str>) = EXPORTS.into_iter().partition(|name| has(name));
+    println!("cargo:rustc-check-cfg=cfg({})", EXPORTS.join(","));
+    present.iter().for_each(|name| println!("cargo:rustc-cfg={name}"));
+    println!("cargo:rustc-env=GERG_ABSENT={}", absent.join(" "));
 }
 
 fn main() {
@@ -22,13 +22,14 @@ fn main() {
     };
     let archive = folder.join("libgerg_api.a");
     println!("cargo:rerun-if-changed={}", archive.display());
-    if let Some(fault) = fault(&archive) {
+    let Ok(bytes) = std::fs::read(&archive) else {
         let root = root.canonicalize().unwrap_or(root);
-        eprintln!("{fault}");
+        eprintln!("there is no {}", archive.display());
         eprintln!("make it with:   cd {} && rt staticlib gerg_api", root.display());
         eprintln!("or name the folder that has it:   RATTLE_ARCHIVES=FOLDER cargo ..");
         std::process::exit(1);
-    }
+    };
+    exports(&bytes);
     println!("cargo:rustc-link-search=native={}", folder.display());
     println!("cargo:rustc-link-lib=static=gerg_api");
 }

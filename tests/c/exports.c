@@ -6,6 +6,11 @@
 #include <stdio.h>
 #include <string.h>
 
+/* An export that the archive does not have is null here; its cases are not run. */
+#pragma weak gerg_density
+#pragma weak gerg_outer_roots
+#pragma weak gerg_pure_saturation
+
 enum { LONGEST_FILE = 28377, ROOM = 64 };
 static uint8_t file[LONGEST_FILE + 1];
 static size_t length;
@@ -114,7 +119,7 @@ static void searches(void)
     expect("collapsed within 600", gerg_number(collapsed) == GERG_COLLAPSED && gerg_value(collapsed) <= 600 && lent_from(0));
 }
 
-static void roots_and_saturation(void)
+static void roots(void)
 {
     accepted("two roots", gerg_outer_roots(PURE(GERG_PROPANE), 270.0, 4e5, out, ROOM), 2, 10);
     expect("roots rise", out[GERG_ROOT_DENSITY] < out[GERG_ROOT_PLACES + 1 + GERG_ROOT_DENSITY]);
@@ -122,6 +127,10 @@ static void roots_and_saturation(void)
     refused("roots: no room", gerg_outer_roots(PURE(GERG_PROPANE), 270.0, 4e5, out, 9), GERG_OUT_TOO_SHORT, 10);
     refused("roots: helium", gerg_outer_roots(PURE(GERG_HELIUM), 270.0, 4e5, out, ROOM), GERG_NOT_QUALIFIED, 0);
     refused("roots: 229 K", gerg_outer_roots(PURE(GERG_PROPANE), 229.0, 4e5, out, ROOM), GERG_ROOTS_OUT_OF_RANGE, 0);
+}
+
+static void saturation(void)
+{
     accepted("saturation", gerg_pure_saturation(PURE(GERG_PROPANE), 5e5, 250.0, 300.0, 100, out), 1, GERG_SATURATION_PLACES);
     expect("propane boils at 0.5 MPa near 274.9 K", fabs(out[GERG_SATURATION_TEMPERATURE] - 274.9) < 0.1);
     expect("at most 60 trials", out[GERG_SATURATION_TRIALS] <= 60.0);
@@ -162,8 +171,9 @@ int main(int count, char **words)
     fclose(in);
     lend();
     states();
-    searches();
-    roots_and_saturation();
+    gerg_density ? searches() : (void)puts("not in the archive: gerg_density");
+    gerg_outer_roots ? roots() : (void)puts("not in the archive: gerg_outer_roots");
+    gerg_pure_saturation ? saturation() : (void)puts("not in the archive: gerg_pure_saturation");
     files();
     printf("%d passed, %d failed\n", passed, failed);
     return failed != 0;

@@ -10,11 +10,17 @@ use std::path::Path;
 
 const SATURATION_ENDS: [f64; 2] = [230.0, 350.0];
 const OUTPUT: [&str; 3] = ["--file", "--json", "--bits"];
+/// What a command needs of the archive beside `gerg_properties` and `gerg_fugacity`.
+const EXPORTS: [(&str, &str); 4] =
+    [("density", "gerg_density"), ("curve", "gerg_density"), ("roots", "gerg_outer_roots"), ("saturation", "gerg_pure_saturation")];
 
 pub fn run(words: &[String]) -> Result<String, Fault> {
     let Some((command, rest)) = words.split_first() else {
         return Err(Fault::usage("no command; see gerg --help"));
     };
+    if let Some((_, export)) = EXPORTS.iter().find(|(name, export)| name == command && !gerg::has_export(export)) {
+        return Err(Fault::usage(format!("{command}: the archive that this program was built with has no {export}")));
+    }
     let parse = |own: &[&str]| Arguments::parse(command, rest, &[own, &OUTPUT].concat());
     match command.as_str() {
         "--help" | "-h" | "help" => Ok(USAGE.to_string()),
@@ -190,6 +196,7 @@ fn state_at(arguments: &Arguments, input: &Input) -> Result<(State, String, Opti
             let state = gerg::properties(&input.file, &input.mixture, t, rho).map_err(|r| input.refused(r, &asked, arguments))?;
             Ok((state, asked, None))
         }
+        (None, Some(_)) if !gerg::has_export("gerg_density") => Err(arguments.fault("--p: the archive that this program was built with has no gerg_density")),
         (None, Some(p)) => {
             let asked = format!("T = {} K, p = {} Pa", exact(t), exact(p));
             let found = lightest::density(&input.file, &input.mixture, t, p, LIMIT, TOLERANCE).map_err(|r| input.refused(r, &asked, arguments))?;

@@ -23,7 +23,8 @@ struct Point {
 
 fn point(input: &Input, t: f64, p: f64) -> Point {
     let (file, mixture) = (&input.file, &input.mixture);
-    let by_root = mixture.components().iter().all(|each| each.has_roots()) && (230.0..=350.0).contains(&t) && (1e5..=1e7).contains(&p);
+    let by_root = gerg::has_export("gerg_outer_roots") && mixture.components().iter().all(|each| each.has_roots())
+        && (230.0..=350.0).contains(&t) && (1e5..=1e7).contains(&p);
     if by_root {
         let roots = gerg::outer_roots(file, mixture, t, p);
         let count = roots.as_ref().map_or(0, Vec::len);

