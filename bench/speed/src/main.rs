@@ -14,12 +14,14 @@ const T: f64 = 300.0;
 const P: f64 = 5e6;
 const RHO: f64 = 2000.0;
 
-/// Seconds a call: the library's; its part that reads the file and prepares the mixture; the Rust's with the model prepared, and with it made anew.
+/// Seconds a call: the library's; its part that reads the file, and that with the mixture prepared; the Rust's with the model prepared, and with
+/// it made anew.
 struct Line {
     call: &'static str,
     components: usize,
     terms: Terms,
     library: f64,
+    reading: f64,
     preparing: f64,
     rust: f64,
     rust_anew: f64,
@@ -50,9 +52,10 @@ fn line(call: &'static str, file: &[u8], mixture: &Mixture, ours: &dyn Fn() -> f
     agree(call, ours(), theirs(&prepared));
     // A density that is not finite is refused right after the file, the list, the fractions and the reducing values are done with.
     let preparing = || gerg::properties(file, mixture, T, f64::NAN).is_err() as u8 as f64;
-    let [library, preparing, rust, rust_anew] =
-        least_seconds([ours, &preparing, &|| theirs(black_box(&prepared)), &|| theirs(&model(black_box(mixture)))]);
-    Line { call, components: mixture.components().len(), terms: terms(file, mixture), library, preparing, rust, rust_anew }
+    let reading = || gerg::check(file).is_ok() as u8 as f64;
+    let [library, reading, preparing, rust, rust_anew] =
+        least_seconds([ours, &reading, &preparing, &|| theirs(black_box(&prepared)), &|| theirs(&model(black_box(mixture)))]);
+    Line { call, components: mixture.components().len(), terms: terms(file, mixture), library, reading, preparing, rust, rust_anew }
 }
 
 fn calls(file: &[u8], count: usize) -> Vec<Line> {
@@ -89,13 +92,13 @@ fn calls(file: &[u8], count: usize) -> Vec<Line> {
 fn main() {
     let path = std::env::args().nth(1).expect("the coefficient file");
     let file = std::fs::read(path).expect("the coefficient file");
-    println!("call        components  terms  library µs  preparing µs     Rust µs  Rust anew µs  Rust/library  Rust anew/library  Rust/evaluating");
+    println!("call        components  terms  library µs  reading µs  preparing µs     Rust µs  Rust anew µs  Rust/library  Rust anew/library  Rust/evaluating");
     for count in [1, 5, 10, 21] {
         for l in calls(&file, count) {
             let micro = |s: f64| s * 1e6;
             println!(
-                "{:10}  {:10}  {:5}  {:10.2}  {:12.2}  {:10.2}  {:12.2}  {:12.2}  {:17.2}  {:15.2}",
-                l.call, l.components, l.terms.all(), micro(l.library), micro(l.preparing), micro(l.rust), micro(l.rust_anew),
+                "{:10}  {:10}  {:5}  {:10.2}  {:10.2}  {:12.2}  {:10.2}  {:12.2}  {:12.2}  {:17.2}  {:15.2}",
+                l.call, l.components, l.terms.all(), micro(l.library), micro(l.reading), micro(l.preparing), micro(l.rust), micro(l.rust_anew),
                 l.rust / l.library, l.rust_anew / l.library, l.rust / (l.library - l.preparing),
             );
         }
