@@ -2,8 +2,8 @@
 use std::hint::black_box;
 use std::time::Instant;
 
-const ROUNDS: usize = 9;
-const ROUND_SECONDS: f64 = 0.02;
+const ROUNDS: usize = 25;
+const ROUND_SECONDS: f64 = 0.01;
 
 fn seconds(call: &dyn Fn() -> f64, repeats: u64) -> f64 {
     let start = Instant::now();
