@@ -42,6 +42,27 @@ fn pascal(p: f64) -> Pressure {
     Pressure::new(p).expect("a pressure")
 }
 
+unsafe extern "C" {
+    fn gerg_fugacity(
+        file: *const u8, file_len: usize, list: *const u8, list_len: usize, fractions: *const f64, fractions_len: usize,
+        t: f64, rho: f64, out: *mut f64, out_len: usize,
+    ) -> u64;
+}
+
+/// A lent answer with no room is refused (row 24) right after the file, the list, the fractions and the reducing values are done with.
+fn prepared_only(file: &[u8], mixture: &Mixture) -> f64 {
+    let list: Vec<u8> = mixture.components().iter().map(|component| component.number()).collect();
+    let (fractions, mut out) = (mixture.fractions(), [0.0; 0]);
+    // SAFETY: every pointer goes with the length of its slice.
+    let answer = unsafe {
+        gerg_fugacity(
+            file.as_ptr(), file.len(), list.as_ptr(), list.len(), fractions.as_ptr(), fractions.len(), T, RHO, out.as_mut_ptr(), 0,
+        )
+    };
+    assert_eq!(answer >> 32, 24);
+    0.0
+}
+
 /// The two answers are of one state: what is timed is the same work.
 fn agree(call: &str, ours: f64, theirs: f64) {
     assert!((ours - theirs).abs() <= 1e-9 * theirs.abs(), "{call}: {ours} and {theirs}");
@@ -50,8 +71,7 @@ fn agree(call: &str, ours: f64, theirs: f64) {
 fn line(call: &'static str, file: &[u8], mixture: &Mixture, ours: &dyn Fn() -> f64, theirs: &dyn Fn(&GergModel) -> f64) -> Line {
     let prepared = model(mixture);
     agree(call, ours(), theirs(&prepared));
-    // A density that is not finite is refused right after the file, the list, the fractions and the reducing values are done with.
-    let preparing = || gerg::properties(file, mixture, T, f64::NAN).is_err() as u8 as f64;
+    let preparing = || prepared_only(file, mixture);
     let reading = || gerg::check(file).is_ok() as u8 as f64;
     let [library, reading, preparing, rust, rust_anew] =
         least_seconds([ours, &reading, &preparing, &|| theirs(black_box(&prepared)), &|| theirs(&model(black_box(mixture)))]);
