@@ -109,6 +109,12 @@ fn calls(file: &[u8], count: usize) -> Vec<Line> {
     lines
 }
 
+/// The Rust over the library's call less preparing; no figure where that difference is within the noise.
+fn evaluating(l: &Line) -> String {
+    let seconds = l.library - l.preparing;
+    if seconds < 0.05 * l.library { "-".into() } else { format!("{:.2}", l.rust / seconds) }
+}
+
 fn main() {
     let path = std::env::args().nth(1).expect("the coefficient file");
     let file = std::fs::read(path).expect("the coefficient file");
@@ -117,9 +123,9 @@ fn main() {
         for l in calls(&file, count) {
             let micro = |s: f64| s * 1e6;
             println!(
-                "{:10}  {:10}  {:5}  {:10.2}  {:10.2}  {:12.2}  {:10.2}  {:12.2}  {:12.2}  {:17.2}  {:15.2}",
+                "{:10}  {:10}  {:5}  {:10.2}  {:10.2}  {:12.2}  {:10.2}  {:12.2}  {:12.2}  {:17.2}  {:>15}",
                 l.call, l.components, l.terms.all(), micro(l.library), micro(l.reading), micro(l.preparing), micro(l.rust), micro(l.rust_anew),
-                l.rust / l.library, l.rust_anew / l.library, l.rust / (l.library - l.preparing),
+                l.rust / l.library, l.rust_anew / l.library, evaluating(&l),
             );
         }
     }
