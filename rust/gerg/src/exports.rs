@@ -1,0 +1,63 @@
+//! The archive's exports, as include/gerg.h has them, behind one function each that takes slices.
+use crate::{Mixture, Search};
+
+/// The exports after the three slices that each starts with. One that the archive does not have stops the program where it is called.
+macro_rules! exports {
+    ($(fn $name:ident($($argument:ident: $kind:ty),*);)*) => {
+        $(
+            #[cfg($name)]
+            unsafe extern "C" {
+                pub fn $name(
+                    file: *const u8, file_len: usize, list: *const u8, list_len: usize, fractions: *const f64, fractions_len: usize,
+                    $($argument: $kind),*
+                ) -> u64;
+            }
+            #[cfg(not($name))]
+            #[allow(clippy::too_many_arguments, clippy::missing_safety_doc)]
+            pub unsafe fn $name(_: *const u8, _: usize, _: *const u8, _: usize, _: *const f64, _: usize, $(_: $kind),*) -> u64 {
+                panic!(concat!("the archive has no ", stringify!($name)))
+            }
+        )*
+    };
+}
+
+mod archive {
+    exports! {
+        fn gerg_properties(t: f64, rho: f64, out: *mut f64);
+        fn gerg_fugacity(t: f64, rho: f64, out: *mut f64, out_len: usize);
+        fn gerg_density(t: f64, target: f64, lo: f64, hi: f64, limit: u64, tolerance: f64, out: *mut f64);
+        fn gerg_outer_roots(t: f64, p: f64, out: *mut f64, out_len: usize);
+        fn gerg_pure_saturation(p: f64, lo: f64, hi: f64, limit: u64, out: *mut f64);
+    }
+}
+
+/// Calls an export with the three slices that each starts with, then its own arguments.
+macro_rules! call {
+    ($export:ident, $file:expr, $mixture:expr, $($argument:expr),*) => {{
+        let (list, fractions) = ($mixture.numbers(), $mixture.fractions());
+        // SAFETY: every pointer goes with the length of its slice, and `out` has the places that the export writes.
+        unsafe {
+            archive::$export($file.as_ptr(), $file.len(), list.as_ptr(), list.len(), fractions.as_ptr(), fractions.len(), $($argument),*)
+        }
+    }};
+}
+
+pub fn properties(file: &[u8], mixture: &Mixture, t: f64, rho: f64, out: &mut [f64; 24]) -> u64 {
+    call!(gerg_properties, file, mixture, t, rho, out.as_mut_ptr())
+}
+
+pub fn fugacity(file: &[u8], mixture: &Mixture, t: f64, rho: f64, out: &mut [f64]) -> u64 {
+    call!(gerg_fugacity, file, mixture, t, rho, out.as_mut_ptr(), out.len())
+}
+
+pub fn density(file: &[u8], mixture: &Mixture, t: f64, target: f64, search: &Search, out: &mut [f64; 30]) -> u64 {
+    call!(gerg_density, file, mixture, t, target, search.lo, search.hi, search.limit, search.tolerance, out.as_mut_ptr())
+}
+
+pub fn outer_roots(file: &[u8], mixture: &Mixture, t: f64, p: f64, out: &mut [f64]) -> u64 {
+    call!(gerg_outer_roots, file, mixture, t, p, out.as_mut_ptr(), out.len())
+}
+
+pub fn pure_saturation(file: &[u8], mixture: &Mixture, p: f64, [lo, hi]: [f64; 2], limit: u64, out: &mut [f64; 9]) -> u64 {
+    call!(gerg_pure_saturation, file, mixture, p, lo, hi, limit, out.as_mut_ptr())
+}

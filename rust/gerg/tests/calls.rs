@@ -1,0 +1,92 @@
+//! The calls on the repository's coefficient file.
+use gerg::{Cause, Component, Component::*, Mixture, Refusal, Search};
+
+fn file() -> Vec<u8> {
+    std::fs::read(gerg::DEFAULT_FILE).expect("data/gerg-2008.bin")
+}
+
+/// Ends a test whose calls the archive does not have.
+macro_rules! needs {
+    ($($export:literal),*) => {
+        for export in [$($export),*] {
+            if !gerg::has_export(export) {
+                eprintln!("not in the archive: {export}");
+                return;
+            }
+        }
+    };
+}
+
+fn gas() -> Mixture {
+    Mixture::new([(Methane, 0.9), (Ethane, 0.1)])
+}
+
+#[test]
+fn components_have_the_numbers_1_to_21_and_distinct_names() {
+    let numbers: Vec<u8> = Component::ALL.iter().map(|each| each.number()).collect();
+    assert_eq!(numbers, (1..=21).collect::<Vec<u8>>());
+    for each in Component::ALL {
+        assert_eq!(each.name().parse(), Ok(each));
+    }
+}
+
+#[test]
+fn causes_have_the_numbers_1_to_26() {
+    let numbers: Vec<u32> = Cause::ALL.iter().map(|each| *each as u32).collect();
+    assert_eq!(numbers, (1..=26).collect::<Vec<u32>>());
+}
+
+/// data/README.md: the NIST AGA8 example, 50 MPa, is beyond the range; near it, at 30 MPa, the state is accepted.
+#[test]
+fn all_21_components() {
+    let fractions = [
+        0.77824, 0.02, 0.06, 0.08, 0.03, 0.0015, 0.003, 0.0005, 0.00165, 0.00215, 0.00088, 0.00024, 0.00015, 0.00009, 0.004, 0.005, 0.002, 0.0001,
+        0.0025, 0.007, 0.001,
+    ];
+    let gas = Mixture::new(Component::ALL.into_iter().zip(fractions));
+    assert_eq!(gerg::properties(&file(), &gas, 400.0, 12798.28626082062), Err(Refusal { cause: Cause::PressureOutOfRange, value: 0 }));
+    needs!("gerg_density");
+    let found = gerg::density(&file(), &gas, 400.0, 30e6, Search::between(5000.0, 12000.0)).unwrap();
+    assert!((found.state.mass_density / found.state.molar_density - 0.0205427445016).abs() < 1e-15);
+    assert_eq!(gerg::fugacity(&file(), &gas, 400.0, found.state.molar_density).unwrap().len(), 21);
+}
+
+#[test]
+fn an_accepted_end_reports_no_trial() {
+    needs!("gerg_density");
+    let first = gerg::density(&file(), &gas(), 300.0, 5e6, Search::between(1000.0, 4000.0)).unwrap();
+    let rho = first.state.molar_density;
+    let again = gerg::density(&file(), &gas(), 300.0, 5e6, Search::between(rho, 4000.0)).unwrap();
+    assert_eq!((again.trials, again.first_bracket, again.last_bracket), (0, [rho, 4000.0], [rho, 4000.0]));
+    assert_eq!(again.state, first.state);
+}
+
+#[test]
+fn a_root_is_a_state_with_its_fugacity() {
+    needs!("gerg_outer_roots");
+    let root = &gerg::outer_roots(&file(), &gas(), 300.0, 5e6).unwrap()[0];
+    let state = gerg::properties(&file(), &gas(), 300.0, root.molar_density).unwrap();
+    assert_eq!((root.pressure, root.compressibility, root.gibbs_energy), (state.pressure, state.compressibility, state.gibbs_energy));
+    assert_eq!(root.ln_fugacity_coefficients, gerg::fugacity(&file(), &gas(), 300.0, root.molar_density).unwrap());
+}
+
+#[test]
+fn refusals_say_number_value_and_cause() {
+    let refused = gerg::properties(&file(), &Mixture::new([(Methane, 0.5), (Methane, 0.5)]), 300.0, 1.0).unwrap_err();
+    assert_eq!(refused, Refusal { cause: Cause::BadList, value: 1 });
+    assert_eq!(refused.to_string(), "refused, number 3: component list empty, over 21 long, or with a number unknown or repeated (at place 1 from 0)");
+    assert_eq!(gerg::check(&[]), Err(Refusal { cause: Cause::BadFile, value: 0 }));
+    needs!("gerg_density", "gerg_outer_roots");
+    let refused = gerg::density(&file(), &gas(), 300.0, 5e6, Search { limit: 3, ..Search::between(1000.0, 4000.0) }).unwrap_err();
+    assert_eq!((refused.number(), refused.value), (19, 3));
+    assert_eq!(gerg::outer_roots(&file(), &Mixture::new([(Argon, 1.0)]), 300.0, 1e6).unwrap_err().cause, Cause::NotQualified);
+}
+
+#[test]
+fn saturation_found_and_not_enclosed() {
+    needs!("gerg_pure_saturation");
+    let propane = Mixture::new([(Propane, 1.0)]);
+    let found = gerg::pure_saturation(&file(), &propane, 5e5, [250.0, 300.0], 100).unwrap().expect("enclosed");
+    assert!(found.residual <= 1e-12 && found.liquid_molar_volume < found.vapour_molar_volume);
+    assert_eq!(gerg::pure_saturation(&file(), &propane, 5e5, [280.0, 300.0], 100), Ok(None));
+}

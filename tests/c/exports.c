@@ -1,0 +1,187 @@
+/* Calls every export: accepted states, the refusals that an input can bring about, and that a refusal leaves `out` as it was. */
+#include "gerg.h"
+
+#include <inttypes.h>
+#include <math.h>
+#include <stdio.h>
+#include <string.h>
+
+/* An export that the archive does not have is null here; its cases are not run. */
+#pragma weak gerg_density
+#pragma weak gerg_outer_roots
+#pragma weak gerg_pure_saturation
+
+enum { LONGEST_FILE = 28377, ROOM = 64 };
+static uint8_t file[LONGEST_FILE + 1];
+static size_t length;
+static double out[ROOM];
+static int passed, failed;
+
+static const double LENT = -12345.678;
+
+static void lend(void)
+{
+    for (int k = 0; k < ROOM; k++)
+        out[k] = LENT;
+}
+
+static void expect(const char *name, int right)
+{
+    if (right)
+        passed++;
+    else {
+        failed++;
+        printf("FAILED %s\n", name);
+    }
+}
+
+/* From this place on `out` still holds what was lent. */
+static int lent_from(int place)
+{
+    for (int k = place; k < ROOM; k++)
+        if (memcmp(&out[k], &LENT, sizeof LENT) != 0)
+            return 0;
+    return 1;
+}
+
+static void refused(const char *name, uint64_t answer, uint32_t number, uint32_t value)
+{
+    char full[128];
+    snprintf(full, sizeof full, "%s: number %" PRIu32 ", value %" PRIu32, name, gerg_number(answer), gerg_value(answer));
+    expect(full, gerg_number(answer) == number && gerg_value(answer) == value && lent_from(0));
+    lend();
+}
+
+static void accepted(const char *name, uint64_t answer, uint32_t value, int places)
+{
+    expect(name, gerg_number(answer) == GERG_ACCEPTED && gerg_value(answer) == value && lent_from(places));
+    for (int k = 0; k < places; k++)
+        expect(name, isfinite(out[k]) && out[k] != LENT);
+}
+
+#define TABLES file, length
+#define METHANE_ETHANE (const uint8_t[]){GERG_METHANE, GERG_ETHANE}, 2
+#define HALVES (const double[]){0.5, 0.5}, 2
+#define GAS TABLES, METHANE_ETHANE, (const double[]){0.9, 0.1}, 2
+#define PURE(component) TABLES, (const uint8_t[]){component}, 1, (const double[]){1.0}, 1
+
+static int near(double a, double b) { return fabs(a - b) <= 1e-9 * fabs(b); }
+
+static void states(void)
+{
+    accepted("properties", gerg_properties(GAS, 300.0, 2000.0, out), 0, GERG_STATE_PLACES);
+    expect("T and density are those given", out[GERG_TEMPERATURE] == 300.0 && out[GERG_MOLAR_DENSITY] == 2000.0);
+    expect("p = rho R T Z", near(out[GERG_PRESSURE], 2000.0 * 8.314472 * 300.0 * out[GERG_COMPRESSIBILITY]));
+    expect("h = u + p / rho", near(out[GERG_ENTHALPY], out[GERG_INTERNAL_ENERGY] + out[GERG_PRESSURE] / 2000.0));
+    expect("g = a + p / rho", near(out[GERG_GIBBS_ENERGY], out[GERG_HELMHOLTZ_ENERGY] + out[GERG_PRESSURE] / 2000.0));
+    expect("a = u - T s", near(out[GERG_HELMHOLTZ_ENERGY], out[GERG_INTERNAL_ENERGY] - 300.0 * out[GERG_ENTROPY]));
+    expect("w^2 = cp/cv dp/drho / M", near(out[GERG_SPEED_OF_SOUND] * out[GERG_SPEED_OF_SOUND],
+        out[GERG_CP] / out[GERG_CV] * out[GERG_DP_DRHO] / (out[GERG_MASS_DENSITY] / 2000.0)));
+    expect("Z = 1 + ar_d", near(out[GERG_COMPRESSIBILITY], 1.0 + out[GERG_AR_D]));
+    lend();
+    accepted("fugacity", gerg_fugacity(GAS, 300.0, 2000.0, out, ROOM), 0, 2);
+    lend();
+    refused("no list", gerg_properties(TABLES, file, 0, HALVES, 300.0, 1.0, out), GERG_BAD_LIST, 0);
+    refused("unknown component", gerg_properties(TABLES, (const uint8_t[]){1, 22}, 2, HALVES, 300.0, 1.0, out), GERG_BAD_LIST, 1);
+    refused("repeated component", gerg_properties(TABLES, (const uint8_t[]){4, 4}, 2, HALVES, 300.0, 1.0, out), GERG_BAD_LIST, 1);
+    refused("one fraction short", gerg_properties(TABLES, METHANE_ETHANE, (const double[]){1.0}, 1, 300.0, 1.0, out), GERG_BAD_FRACTIONS, 2);
+    refused("negative fraction", gerg_properties(TABLES, METHANE_ETHANE, (const double[]){1.5, -0.5}, 2, 300.0, 1.0, out), GERG_BAD_FRACTIONS, 1);
+    refused("sum", gerg_properties(TABLES, METHANE_ETHANE, (const double[]){0.9, 0.2}, 2, 300.0, 1.0, out), GERG_BAD_FRACTIONS, 2);
+    refused("density NaN", gerg_properties(GAS, 300.0, NAN, out), GERG_DENSITY_NONFINITE, 0);
+    refused("density -1 at T 100", gerg_properties(GAS, 100.0, -1.0, out), GERG_DENSITY_NOT_POSITIVE, 0);
+    refused("below 200 K", gerg_properties(GAS, nextafter(200.0, 0.0), 1.0, out), GERG_OUT_OF_RANGE, 0);
+    accepted("200 K", gerg_properties(GAS, 200.0, 1.0, out), 0, GERG_STATE_PLACES);
+    lend();
+    accepted("450 K", gerg_properties(GAS, 450.0, 1.0, out), 0, GERG_STATE_PLACES);
+    lend();
+    refused("above 450 K", gerg_properties(GAS, nextafter(450.0, 500.0), 1.0, out), GERG_OUT_OF_RANGE, 0);
+    refused("T NaN", gerg_properties(GAS, NAN, 1.0, out), GERG_OUT_OF_RANGE, 0);
+    refused("unstable", gerg_properties(PURE(GERG_PROPANE), 270.0, 2000.0, out), GERG_UNSTABLE, 0);
+    refused("pressure", gerg_properties(GAS, 400.0, 20000.0, out), GERG_PRESSURE_OUT_OF_RANGE, 0);
+    refused("no room", gerg_fugacity(GAS, 300.0, 2000.0, out, 1), GERG_OUT_TOO_SHORT, 2);
+}
+
+static void searches(void)
+{
+    accepted("density", gerg_density(GAS, 300.0, 5e6, 1000.0, 4000.0, 100, 1e-10, out), 0, GERG_DENSITY_PLACES);
+    expect("the target is met", fabs(out[GERG_PRESSURE] - 5e6) <= 5e6 * 1e-10 && fabs(out[GERG_RESIDUAL]) <= 1e-10);
+    expect("brackets", out[GERG_FIRST_LO] == 1000.0 && out[GERG_FIRST_HI] == 4000.0 && out[GERG_LAST_LO] < out[GERG_MOLAR_DENSITY]
+        && out[GERG_MOLAR_DENSITY] < out[GERG_LAST_HI] && out[GERG_TRIALS] >= 1.0 && out[GERG_TRIALS] <= 100.0);
+    lend();
+    refused("lo = hi, limit 0, tolerance 0", gerg_density(GAS, 300.0, 5e6, 1.0, 1.0, 0, 0.0, out), GERG_BAD_SEARCH, 0);
+    refused("tolerance", gerg_density(GAS, 300.0, 5e6, 1000.0, 4000.0, 100, nextafter(1e-7, 1.0), out), GERG_BAD_SEARCH, 0);
+    refused("target 0", gerg_density(GAS, 300.0, 0.0, 1000.0, 4000.0, 100, 1e-10, out), GERG_BAD_TARGET, 0);
+    refused("target NaN", gerg_density(GAS, 300.0, NAN, 1000.0, 4000.0, 100, 1e-10, out), GERG_BAD_TARGET, 0);
+    refused("unstable end", gerg_density(PURE(GERG_PROPANE), 270.0, 4e5, 1.0, 2000.0, 100, 1e-10, out), GERG_TRIAL_UNSTABLE, 0);
+    refused("not bracketed", gerg_density(GAS, 300.0, 5e6, 3000.0, 4000.0, 100, 1e-10, out), GERG_NOT_BRACKETED, 0);
+    refused("limit", gerg_density(GAS, 300.0, 5e6, 1000.0, 4000.0, 3, 1e-10, out), GERG_LIMIT_REACHED, 3);
+    /* With next to no tolerance a search ends on the target's very double, or with no double left between the ends. */
+    int collapsed = 0, within = 1;
+    for (int k = 0; k < 20; k++) {
+        const uint64_t answer = gerg_density(GAS, 300.0, 5e6 + k, 1000.0, 4000.0, 10000, 1e-300, out);
+        collapsed += gerg_number(answer) == GERG_COLLAPSED;
+        within = within && (gerg_number(answer) == GERG_COLLAPSED ? gerg_value(answer) <= 600 && lent_from(0) : gerg_number(answer) != GERG_LIMIT_REACHED);
+        lend();
+    }
+    expect("some collapse, none makes more than 600 trials", collapsed > 0 && within);
+}
+
+static void roots(void)
+{
+    accepted("two roots", gerg_outer_roots(PURE(GERG_PROPANE), 270.0, 4e5, out, ROOM), 2, 10);
+    expect("roots rise", out[GERG_ROOT_DENSITY] < out[GERG_ROOT_PLACES + 1 + GERG_ROOT_DENSITY]);
+    lend();
+    refused("roots: no room", gerg_outer_roots(PURE(GERG_PROPANE), 270.0, 4e5, out, 9), GERG_OUT_TOO_SHORT, 10);
+    refused("roots: helium", gerg_outer_roots(PURE(GERG_HELIUM), 270.0, 4e5, out, ROOM), GERG_NOT_QUALIFIED, 0);
+    refused("roots: 229 K", gerg_outer_roots(PURE(GERG_PROPANE), 229.0, 4e5, out, ROOM), GERG_ROOTS_OUT_OF_RANGE, 0);
+}
+
+static void saturation(void)
+{
+    accepted("saturation", gerg_pure_saturation(PURE(GERG_PROPANE), 5e5, 250.0, 300.0, 100, out), 1, GERG_SATURATION_PLACES);
+    expect("propane boils at 0.5 MPa near 274.9 K", fabs(out[GERG_SATURATION_TEMPERATURE] - 274.9) < 0.1);
+    expect("at most 60 trials", out[GERG_SATURATION_TRIALS] <= 60.0);
+    lend();
+    accepted("not enclosed", gerg_pure_saturation(PURE(GERG_PROPANE), 5e5, 280.0, 300.0, 100, out), 0, 0);
+    refused("two positive fractions", gerg_pure_saturation(GAS, 5e5, 250.0, 300.0, 100, out), GERG_BAD_SATURATION, 0);
+    refused("falling ends", gerg_pure_saturation(PURE(GERG_HELIUM), 5e5, 300.0, 250.0, 100, out), GERG_BAD_SATURATION, 0);
+    refused("saturation: helium", gerg_pure_saturation(PURE(GERG_HELIUM), 5e5, 250.0, 300.0, 100, out), GERG_NOT_QUALIFIED, 0);
+    refused("saturation: limit", gerg_pure_saturation(PURE(GERG_PROPANE), 5e5, 250.0, 300.0, 3, out), GERG_SATURATION_EXHAUSTED, 3);
+}
+
+/* Last: it spoils the file. */
+static void files(void)
+{
+    size_t whole = length, pairs = 41 + 21 * 108;
+    for (int i = 0; i < 21; i++)
+        pairs += 21 * (file[41 + 108 * i + 18] + file[41 + 108 * i + 19]);
+    length = 0;
+    refused("empty file", gerg_properties(PURE(1), 300.0, 1.0, out), GERG_BAD_FILE, 0);
+    length = whole - 1;
+    refused("last record cut", gerg_properties(PURE(1), 300.0, 1.0, out), GERG_BAD_FILE, (uint32_t)(whole - 44));
+    length = whole + 1;
+    refused("a byte over", gerg_properties(PURE(1), 300.0, 1.0, out), GERG_BAD_FILE, (uint32_t)whole);
+    length = whole;
+    const double nothing = NAN;
+    memcpy(file + pairs + 3, &nothing, sizeof nothing);
+    refused("bt NaN", gerg_properties(PURE(1), 300.0, 1.0, out), GERG_BAD_TABLE, 1);
+}
+
+int main(int count, char **words)
+{
+    FILE *in = count == 2 ? fopen(words[1], "rb") : NULL;
+    if (!in) {
+        fprintf(stderr, "usage: %s COEFFICIENT-FILE\n", words[0]);
+        return 2;
+    }
+    length = fread(file, 1, LONGEST_FILE, in);
+    fclose(in);
+    lend();
+    states();
+    gerg_density ? searches() : (void)puts("not in the archive: gerg_density");
+    gerg_outer_roots ? roots() : (void)puts("not in the archive: gerg_outer_roots");
+    gerg_pure_saturation ? saturation() : (void)puts("not in the archive: gerg_pure_saturation");
+    files();
+    printf("%d passed, %d failed\n", passed, failed);
+    return failed != 0;
+}
