@@ -1,0 +1,4 @@
+-- The exterior roots of an isotherm: the grid, the scan with its halvings, and the answer.
+pub mod Grid
+pub mod GridArray
+pub mod Front
