@@ -2,3 +2,6 @@
 pub mod Grid
 pub mod GridArray
 pub mod Front
+pub mod Halving
+pub mod Scan
+pub mod ScanArrays
