@@ -5,3 +5,9 @@ pub mod Front
 pub mod Halving
 pub mod Scan
 pub mod ScanArrays
+pub mod ScanLaws
+pub mod Sampling
+pub mod Roots
+pub mod RootList
+pub mod RootsArrays
+pub mod RootsLaws

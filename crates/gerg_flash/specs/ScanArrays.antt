@@ -35,6 +35,13 @@ pub record Stepped (after : Scanned → Scanned) (s : Scan) (d e : List Float) (
 abbrev pub Rooted : Halving → Scan → List Float → List Float → Scan → List Float → List Float → Type 0
 Rooted h = Stepped (rootedOf h)
 
+-- the scan at its end: at most 386 roots
+pub record Ended (whole : Scanned) (r : Scan) (d e : List Float) : Type 0 where
+  pub is : scannedOf r d e ≡ whole
+  pub most : r .count ≤ 386
+  pub densities : length d ≡ 386
+  pub residuals : length e ≡ 386
+
 -- ---- the test of a root against the last one
 pub apart-first : (density : Float) (l : List Float) (n : ℕ) → n ≡ 0 → true ≡ apart density (take n l)
 unfolding apart

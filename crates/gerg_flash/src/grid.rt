@@ -109,7 +109,7 @@ fn keep(points: &mut [f64; 386], n: usize, x: f64) -> usize
 }
 
 pub fn grid() -> GridPoints
-    ensures { λ r. ⌜ (take (r .count) (r .points) ≡ gridOf) × (0 < r .count) × (r .count ≤ 386) ⌝ }
+    ensures { λ r. ⌜ (take (r .count) (r .points) ≡ gridOf) × (0 < r .count) × (r .count ≤ 386) × (length (r .points) ≡ 386) ⌝ }
 {
     let sorted = sorted_points();
     let mut points = [0.0; 386];

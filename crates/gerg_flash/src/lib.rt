@@ -3,7 +3,10 @@
 
 pub mod grid;
 pub mod halve;
+pub mod roots;
+pub mod sampling;
 pub mod scanning;
+pub mod settle;
 
 // Densities in rising order; the first `count` places hold them.
 pub struct GridPoints {
@@ -37,4 +40,16 @@ pub struct Scan {
     pub last_negative: f64,
     pub count: usize,
     pub refused: u8,
+}
+
+// The roots that are kept so far, which lie in two arrays beside it, and the number of the refusal that ended it, or 0.
+pub struct Settled {
+    pub count: usize,
+    pub refused: u8,
+}
+
+// The number of exterior roots, or document 01's number and value.
+pub enum RootsAnswer {
+    Roots(usize),
+    Refused { number: u8, value: usize },
 }

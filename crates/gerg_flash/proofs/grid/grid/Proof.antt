@@ -48,7 +48,7 @@ returns : tie.Need-returns Inv-loop μ-loop
 unfolding gridOf
 returns c =
     let t = c .before .loop in
-    (iter-done _ _ _ _ (t .inv .5) (omega arith), t .inv .2 (omega arith), omega arith)
+    (iter-done _ _ _ _ (t .inv .5) (omega arith), t .inv .2 (omega arith), omega arith, t .inv .3)
 
 pub grid-spec : {M : Type 1} → statement M
 grid-spec =
