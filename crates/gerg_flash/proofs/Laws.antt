@@ -4,3 +4,4 @@ pub mod GridRises
 pub mod HalvingStays
 pub mod ScanRises
 pub mod KeptRises
+pub mod Written

@@ -1,8 +1,8 @@
 -- What demand 3 promises of root lists. Assumes nothing.
-use mathlib.Core.Path.{_≡_, refl, sym, ap, _∙_, subst}
+use mathlib.Core.Path.{_≡_, sym, ap, _∙_}
 use mathlib.Core.Bool.{Bool, true, false}
-use mathlib.Core.List.{List, [], _∷_}
-use Prim.Native.Nat.{ℕ, _<_}
+use mathlib.Core.List.{List, []}
+use Prim.Native.Nat.{ℕ, _+_, _*_, _<_}
 use native.Mathlib.Nat.{lt-trans}
 use native.Mathlib.Omega.{arith}
 use lib.Dec.{T, eqb}
@@ -23,12 +23,14 @@ use Rattle.gerg_density.proofs.Laws.Gap.{count→lt}
 use Rattle.gerg_flash.specs.Grid.{gridOf}
 use Rattle.gerg_flash.specs.Scan.{Scanned, scanOf}
 use Rattle.gerg_flash.specs.Sampling.{sampleOf}
-use Rattle.gerg_flash.specs.Roots.{Outcome, found, stopped, Kept, headOf, checkedOf, stateOf, rootAt, keptOf, foundOf, searchedOf}
+use Rattle.gerg_flash.specs.Roots.{Outcome, found, stopped, headOf, checkedOf, stateOf, rootAt, keptOf, foundOf, numberAt, memoryBy, searchedOf, rootsOf, rootsMemory}
 use Rattle.gerg_flash.specs.RootList.{rootList}
 use Rattle.gerg_flash.proofs.Laws.Rising.{Rising, rising-none}
 use Rattle.gerg_flash.proofs.Laws.GridRises.{grid-rises, grid-some}
 use Rattle.gerg_flash.proofs.Laws.ScanRises.{scan-rises}
 use Rattle.gerg_flash.proofs.Laws.KeptRises.{Headed, kept-rises}
+use Rattle.gerg_flash.proofs.Laws.Written.{roots-at, list-at, list-length, Accepted, roots-accepted}
+use Rattle.gerg_flash.specs.declared.RootsAnswer.the-variants.{Roots}
 
 -- ---- a root's first number is its density
 module _ (t : Tables) (m : GergModel) (gradients : List (List Float)) (temperature x : Float) (h c : List Float) where
@@ -66,3 +68,19 @@ root-lists-rise t m gradients range temperature target i j h k =
     found-rises (rootAt t m gradients range temperature) (headed t m gradients range temperature) target (scanOf (sampleOf t m range temperature target) target gridOf)
     (scan-rises (sampleOf t m range temperature target) target gridOf grid-rises grid-some) in
     count→lt (getD l i nan) (getD l j nan) (r .each i (lt-trans h k) .good) (r .each j k .good) (r .order i j h k)
+
+-- ---- the root list is what an accepted call wrote: as many roots as it answers, and the density of root i at i times the numbers of a root
+module _ (t : Tables) (m : GergModel) (gradients : List (List Float)) (range : Range) (temperature target : Float) (out : List Float) (n : ℕ) (e : rootsOf t m gradients range temperature target (length out) ≡ Roots n) where
+  accepted : Accepted m (length out) n (searchedOf t m gradients range temperature target)
+  accepted = roots-accepted t m gradients range temperature target (length out) n e
+
+  pub root-list-length : length (rootList (searchedOf t m gradients range temperature target .heads)) ≡ n
+  root-list-length = list-length (searchedOf t m gradients range temperature target .heads) ∙ accepted .count
+
+  pub root-list-written : (i : ℕ) → i < n → getD (rootsMemory t m gradients range temperature target out) (i * (4 + m .components)) nan ≡ getD (rootList (searchedOf t m gradients range temperature target .heads)) i nan
+  unfolding rootsMemory memoryBy numberAt
+  root-list-written i h =
+      let k = searchedOf t m gradients range temperature target in
+      let z : i * (4 + m .components) ≡ i * (4 + m .components) + 0 = omega arith in
+      rw (e, z)
+      (roots-at (k .heads) (k .coefficients) (4 + m .components) n out i 0 h (omega arith) (omega (arith, ap (λ (c : ℕ). c * (4 + m .components)) (accepted .count), accepted .room)) ∙ sym (list-at (k .heads) i))

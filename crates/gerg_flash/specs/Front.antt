@@ -1,10 +1,10 @@
 -- The front of an array as a list that grows at its end. Assumes nothing.
 use mathlib.Core.List.{List, [], _∷_, _++_}
-use mathlib.Core.Path.{_≡_, refl, sym, ap, _∙_}
-use Prim.Native.Nat.{ℕ, zero, suc, _+_, _-_, _<_, _≤_}
+use mathlib.Core.Path.{_≡_}
+use Prim.Native.Nat.{ℕ, _+_, _-_, _<_, _≤_}
 use native.Mathlib.Numerals.{add-one}
 use native.Mathlib.Omega.{arith}
-use lib.ListN.{getD, set, length, take, drop}
+use lib.ListN.{getD, set, length, take}
 use lib.Seq.{take-suc-set, getD-take, length-take-le}
 
 -- one more is written behind the first n

@@ -1,7 +1,7 @@
 -- The sorted front of an array, as the code inserts into it, and the list that it stands for. Assumes nothing.
 use mathlib.Core.Bool.{Bool, true, false}
-use mathlib.Core.List.{List, [], _∷_, _++_}
-use mathlib.Core.Path.{_≡_, refl, sym, ap, _∙_}
+use mathlib.Core.List.{List, [], _∷_}
+use mathlib.Core.Path.{_≡_, refl, ap, _∙_}
 use Prim.Native.Nat.{ℕ, zero, suc, _+_, _-_, _<_, _≤_}
 use native.Mathlib.Numerals.{add-one}
 use native.Mathlib.Omega.{arith}
@@ -10,7 +10,7 @@ use lib.ListN.{getD, set, length, take, drop, drop-of-length-le}
 use lib.Seq.{drop-cons}
 use Rattle.numerics.specs.Double.{pick}
 use Rattle.gerg_flash.specs.Grid.{pointAt, inserted, turned, greatestFirst, sortedPoints, kept}
-use Rattle.numerics.specs.Iterate.{iter, iter-next, iter-zero}
+use Rattle.numerics.specs.Iterate.{iter}
 
 -- v goes to place j, or lower: past each element that is above it, which moves up
 unfoldable pub insertFrom : ℕ → Float → List Float → List Float

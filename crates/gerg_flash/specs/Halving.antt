@@ -1,5 +1,5 @@
 -- A crossing of the target between two densities, halved. `v` gives the sample at each density.
-use mathlib.Core.Bool.{Bool, true, false, _||_}
+use mathlib.Core.Bool.{true, false, _||_}
 use Prim.Native.Nat.{ℕ}
 use lib.Ieee.{Float, lt, le, eq, neg}
 use Rattle.numerics.specs.Double.{_⊕_, _⊖_, _⊗_, _⊘_, bits, +0, one, pick}

@@ -1,15 +1,15 @@
 -- What the code's scan leaves in its struct and its two arrays, and the laws of its steps. Assumes nothing.
-use mathlib.Core.Bool.{Bool, true, false, _||_}
-use mathlib.Core.List.{List, [], _∷_, _++_}
-use mathlib.Core.Path.{_≡_, refl, sym, ap, _∙_}
-use Prim.Native.Nat.{ℕ, zero, suc, _+_, _-_, _<_, _≤_}
+use mathlib.Core.Bool.{true, false}
+use mathlib.Core.List.{List}
+use mathlib.Core.Path.{_≡_, sym, _∙_}
+use Prim.Native.Nat.{ℕ, _+_, _-_, _<_, _≤_}
 use native.Mathlib.Omega.{arith}
 use borrow.Author.Tests.{eq-eqb, ne-eqb}
 use lib.Dec.{eqb}
 use lib.Ieee.{Float, nan, lt}
 use lib.ListN.{getD, set, length, take, length-set}
 use lib.Seq.{length-take-le}
-use Rattle.numerics.specs.Double.{_⊖_, _⊗_, bits, pick}
+use Rattle.numerics.specs.Double.{_⊖_, _⊗_, bits}
 use Rattle.gerg_flash.specs.Front.{front-more, front-last}
 use Rattle.gerg_flash.specs.Halving.{sizeOf}
 use Rattle.gerg_flash.specs.Scan.{Scanned, refusedBy, apart, rootedOf, scannedOf}

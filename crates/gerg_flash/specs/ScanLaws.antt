@@ -1,7 +1,7 @@
 -- The ways of a scan's step, from what each call gave. Assumes nothing.
-use mathlib.Core.Bool.{Bool, true, false, _&&_}
+use mathlib.Core.Bool.{true, false, _&&_}
 use mathlib.Core.List.{List}
-use mathlib.Core.Path.{_≡_, refl, sym, ap, _∙_}
+use mathlib.Core.Path.{_≡_, sym, ap, _∙_}
 use Prim.Native.Nat.{ℕ, _+_, _≤_, _<_}
 use native.Mathlib.Omega.{arith}
 use borrow.Author.Tests.{eq-eqb, ne-eqb}
@@ -10,9 +10,9 @@ use lib.Ieee.{Float, nan, le}
 use lib.ListN.{length, getD, take}
 use lib.Seq.{getD-take, length-take-le}
 use Rattle.numerics.specs.Iterate.{range, range-begins, range-turn, range-done}
-use Rattle.numerics.specs.Double.{+0, pick}
+use Rattle.numerics.specs.Double.{+0}
 use Rattle.gerg_flash.specs.Halving.{toleranceOf, crossingOf}
-use Rattle.gerg_flash.specs.Scan.{Scanned, refusedBy, notedOf, movedOf, rootedOf, crossedOf, seenOf, scanStep, begunAt, scanOf, scannedOf}
+use Rattle.gerg_flash.specs.Scan.{Scanned, refusedBy, notedOf, movedOf, crossedOf, seenOf, scanStep, begunAt, scanOf, scannedOf}
 use Rattle.gerg_flash.specs.ScanArrays.{Stepped, Rooted}
 use Rattle.gerg_flash.specs.declared.Sample.{Sample}
 use Rattle.gerg_flash.specs.declared.Sample.the-variants.{Value, Refused}

@@ -10,14 +10,11 @@ use gerg::Range;
 use gerg::isotherm;
 use gerg::mixture;
 ghost use mathlib.Core.Path.{_≡_};
-ghost use mathlib.Core.List.{[]};
 ghost use Prim.Native.Nat.{_+_, _*_, _<_, _≤_};
 ghost use lib.ListN.{length, take};
 ghost use Rattle.gerg_tables.specs.Tables.{tables, Shaped};
-ghost use Rattle.gerg.specs.Isotherm.{isothermOf};
 ghost use Rattle.gerg.specs.Mixture.{Listed};
 ghost use Rattle.gerg_flash.specs.Roots as is;
-ghost use Rattle.gerg_flash.specs.RootsArrays.{Settles};
 
 // Row 20: a listed component that is not one of the first five.
 fn beyond_five(model: GergModel) -> bool

@@ -17,7 +17,7 @@ ghost use Rattle.gerg_tables.specs.Tables.{tables, Shaped};
 ghost use Rattle.gerg.specs.Isotherm.{isothermOf};
 ghost use Rattle.gerg_flash.specs.Sampling.{sampleFrom, sampleBy, sampleOf};
 ghost use Rattle.gerg_flash.specs.Halving.{halvedOf, crossingOf};
-ghost use Rattle.gerg_flash.specs.Scan.{crossedOf, seenOf, scanStep, scanOf, scannedOf};
+ghost use Rattle.gerg_flash.specs.Scan.{crossedOf, seenOf, scanStep, scanOf};
 ghost use Rattle.gerg_flash.specs.ScanArrays.{Stepped, Ended};
 
 const GAS_CONSTANT: f64 = 8.314472;

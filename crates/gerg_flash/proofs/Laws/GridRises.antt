@@ -1,18 +1,16 @@
 -- The grid's points are densities, and each is greater than the one before. Assumes nothing.
-use mathlib.Core.Path.{_≡_, refl, sym, ap, _∙_, subst}
-use mathlib.Core.Logic.{_⊎_, inl, inr}
-use mathlib.Core.Bool.{Bool, true, false, not, false≢true}
+use mathlib.Core.Path.{_≡_, refl, sym, _∙_, subst}
+use mathlib.Core.Bool.{Bool, true, false, false≢true}
 use mathlib.Core.List.{List, [], _∷_, _++_}
 use Prim.Native.Nat.{ℕ, zero, suc, _+_, _-_, _*_, _^_, _≤_, _<_}
-use native.Mathlib.Nat.{le-trans, le-refl, le-of-lt, lt-of-not-le, not-le-of-lt, eq-or-lt-of-le}
+use native.Mathlib.Nat.{le-trans, le-refl, le-of-lt, lt-of-not-le}
 use native.Mathlib.Omega.{arith}
 use lib.Dec.{T, ltb, lit≤}
-use lib.Ieee.{Float, nan, fin, binary64, fits, lt, le, eq, ofBits, ofInt}
-use lib.Ieee.Bits.{ofBits-fits}
+use lib.Ieee.{Float, nan, binary64, fits, lt, le, eq, ofBits, ofInt}
 use lib.Ieee.Fits.{add-fits, mul-fits}
-use lib.Ieee.Positive.{positive, between}
+use lib.Ieee.Positive.{between}
 use lib.ListN.{length, getD, length-append}
-use Rattle.numerics.specs.Double.{_⊕_, _⊖_, _⊗_, _⊘_, bits, pick}
+use Rattle.numerics.specs.Double.{_⊖_, _⊗_, _⊘_, bits, pick}
 use Rattle.numerics.specs.Iterate.{iter}
 use Rattle.elementary.specs.Exp.{expOf}
 use Rattle.elementary.specs.Ln.{lnOf}

@@ -1,21 +1,20 @@
 -- The best point of a crossing lies between its ends, whatever the samples are. Assumes nothing.
-use mathlib.Core.Path.{_≡_, refl, sym, ap, _∙_, subst}
-use mathlib.Core.Logic.{_⊎_, inl, inr}
+use mathlib.Core.Path.{_≡_, refl, sym}
 use mathlib.Core.Bool.{Bool, true, false, _||_, true≢false}
-use Prim.Native.Nat.{ℕ, zero, suc, _+_, _-_, _*_, _^_, _≤_, _<_}
+use Prim.Native.Nat.{ℕ, zero, suc, _+_, _-_, _≤_, _<_}
 use native.Mathlib.Nat.{le-trans, le-refl, le-of-lt}
 use native.Mathlib.Omega.{arith}
 use lib.Ieee.{Float, lt, le, eq}
-use Rattle.numerics.specs.Double.{_⊕_, _⊖_, _⊗_, +0, pick}
+use Rattle.numerics.specs.Double.{+0, pick}
 use Rattle.numerics.specs.Iterate.{iter}
-use Rattle.gerg_density.proofs.Laws.Gap.{unit, count, Good}
+use Rattle.gerg_density.proofs.Laws.Gap.{count, Good}
 use Rattle.gerg_density.proofs.Laws.Rounded.{Ranged}
 use Rattle.gerg_density.proofs.Laws.Shrink.{middle-good, middle-from, middle-to}
-use Rattle.gerg_flash.specs.Halving.{half, sizeOf, middleOf, narrowedOf, stoppedBy, triedOf, halvedOf, unhalved, crossingOf}
+use Rattle.gerg_flash.specs.Halving.{sizeOf, middleOf, narrowedOf, stoppedBy, triedOf, halvedOf, unhalved, crossingOf}
 use Rattle.gerg_flash.specs.declared.Sample.{Sample}
 use Rattle.gerg_flash.specs.declared.Sample.the-variants.{Value, Refused}
 use Rattle.gerg_flash.specs.declared.Halving.{Halving}
-use Rattle.gerg_flash.proofs.Laws.Rising.{Density, strictly, unlike-count}
+use Rattle.gerg_flash.proofs.Laws.Rising.{strictly, unlike-count}
 
 -- x is a double from a to b
 pub record Between (a b x : Float) : Type 0 where

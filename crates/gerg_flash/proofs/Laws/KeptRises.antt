@@ -1,5 +1,5 @@
 -- The roots that are kept of a rising list rise, whatever each gives. Assumes nothing.
-use mathlib.Core.Path.{_≡_, refl, sym, ap, _∙_, subst}
+use mathlib.Core.Path.{_≡_, refl, ap, _∙_}
 use mathlib.Core.Bool.{Bool, true, false, _&&_}
 use mathlib.Core.List.{List, [], _∷_, _++_}
 use Prim.Native.Nat.{ℕ, zero, suc, _+_, _-_, _≤_, _<_}
@@ -14,7 +14,7 @@ use Rattle.gerg_density.proofs.Laws.Gap.{count}
 use Rattle.gerg_flash.specs.Roots.{Outcome, found, stopped, Kept, stoppedBy, joinedBy, limitOf, keepStep, keptOf}
 use Rattle.gerg_flash.specs.RootList.{rootList}
 use Rattle.gerg_flash.specs.Scan.{Scanned}
-use Rattle.gerg_flash.proofs.Laws.Rising.{Density, Rising, rising-none, rising-more, last, last-more}
+use Rattle.gerg_flash.proofs.Laws.Rising.{Rising, rising-none, rising-more, last, last-more}
 
 -- what a root gives has its density first
 abbrev pub Headed : (Float → Outcome) → Type 0

@@ -1,18 +1,18 @@
 -- Lists of densities, each greater than those before it. Assumes nothing.
 use mathlib.Core.Path.{_≡_, refl, sym, ap, _∙_, subst}
 use mathlib.Core.Logic.{_⊎_, inl, inr}
-use mathlib.Core.Bool.{Bool, true, false, not, true≢false}
+use mathlib.Core.Bool.{true, false, not, true≢false}
 use mathlib.Core.List.{List, [], _∷_, _++_}
-use Prim.Native.Nat.{ℕ, zero, suc, _+_, _-_, _*_, _^_, _≤_, _<_}
+use Prim.Native.Nat.{ℕ, _+_, _-_, _*_, _^_, _≤_, _<_}
 use native.Mathlib.Nat.{lt-trans, eq-or-lt-of-le}
 use native.Mathlib.Omega.{arith}
 use lib.Dec.{T}
-use lib.Ieee.{Float, nan, inf, fin, lt, eq, isNan}
+use lib.Ieee.{Float, nan, inf, fin, eq, isNan}
 use lib.Ieee.Positive.{positive}
 use lib.ListN.{length, getD, length-append, List·getD-append}
 use lib.Seq.{getD-append-seam}
 use Rattle.numerics.specs.Finite.{eq-self}
-use Rattle.gerg_density.proofs.Laws.Gap.{unit, count, Good, count→lt, same}
+use Rattle.gerg_density.proofs.Laws.Gap.{unit, count, Good, same}
 
 -- a double from 2 ^ -10 to 2 ^ 15
 pub record Density (x : Float) : Type 0 where

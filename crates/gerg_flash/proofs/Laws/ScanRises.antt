@@ -1,23 +1,21 @@
 -- The roots of a scan rise, whatever the samples are. Assumes nothing.
-use mathlib.Core.Path.{_≡_, refl, sym, ap, _∙_, subst}
-use mathlib.Core.Logic.{_⊎_, inl, inr}
-use mathlib.Core.Bool.{Bool, true, false, not, _&&_, _||_, cond, true≢false, false≢true}
+use mathlib.Core.Path.{_≡_, refl, sym, _∙_, subst}
+use mathlib.Core.Bool.{Bool, true, false, _&&_, cond, true≢false}
 use mathlib.Core.List.{List, [], _∷_, _++_}
 use Prim.Native.Nat.{ℕ, zero, suc, _+_, _-_, _*_, _/_, _%_, _^_, _≤_, _<_, compare}
-use native.Mathlib.Nat.{le-trans, le-refl, le-of-lt, lt-of-lt-of-le, mul-pos, sub-self}
+use native.Mathlib.Nat.{le-trans, le-refl, le-of-lt, mul-pos, sub-self}
 use native.Mathlib.Omega.{arith}
 use borrow.Author.Tests.{ne-eqb, le-ltb}
-use lib.IntN.{ℤ, pos}
-use lib.Dec.{T, ltb, eqb, lit≤}
-use lib.Ieee.{Float, nan, inf, fin, Format, binary64, prec, emax, low, up, down, size, nearest, odd, units, round, sum, add, sub, neg, mul, lt, le, ofBits}
+use lib.Dec.{T, ltb, eqb}
+use lib.Ieee.{Float, nan, inf, fin, binary64, prec, emax, low, up, down, size, nearest, odd, units, round, sum, add, sub, neg, mul, lt, le, ofBits}
 use lib.Ieee.Exact.{HasValue}
 use lib.Ieee.Fits.{down-pos}
 use lib.Ieee.Positive.{positive}
-use lib.ListN.{length, getD, take}
+use lib.ListN.{length, getD}
 use Rattle.numerics.specs.Double.{_⊖_, _⊗_, bits, +0, pick}
 use Rattle.numerics.specs.Iterate.{iter, range}
 use Rattle.numerics.specs.Nonneg.{zero-val}
-use Rattle.gerg_density.proofs.Laws.Gap.{unit, count, Good, same}
+use Rattle.gerg_density.proofs.Laws.Gap.{count, Good, same}
 use Rattle.gerg_density.proofs.Laws.Rounded.{Ranged}
 use Rattle.gerg_flash.specs.Halving.{sizeOf, toleranceOf, crossingOf}
 use Rattle.gerg_flash.specs.Scan.{Scanned, refusedBy, begunAt, notedOf, apart, rootedOf, movedOf, crossedOf, seenOf, scanStep, scanOf}

@@ -6,7 +6,7 @@ use lib.Ieee.{Float, nan}
 use lib.ListN.{length, take, getD}
 use Prim.Native.Nat.{_≤_, _<_, _-_}
 use mathlib.Core.List.{List, []}
-use mathlib.Core.Path.{_≡_, refl, sym, ap, _∙_}
+use mathlib.Core.Path.{_≡_, refl, ap, _∙_}
 use Rattle.gerg_flash.specs.Grid.{sortedPoints, kept, gridOf}
 use Rattle.gerg_flash.proofs.grid.grid.Statement.{statement}
 use Rattle.gerg_flash.proofs.grid.grid.Tie as tie

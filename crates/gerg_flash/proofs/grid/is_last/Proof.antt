@@ -2,9 +2,9 @@
 use mathlib.Core.Bool.{false≢true}
 use Prim.Native.Nat.{_≤_}
 use native.Mathlib.Omega.{arith}
-use lib.ListN.{length, take}
+use lib.ListN.{length}
 use lib.Ieee.{Float, nan, eq}
-use mathlib.Core.Path.{_≡_, refl, sym, ap, _∙_}
+use mathlib.Core.Path.{_≡_, sym, ap}
 use Rattle.gerg_flash.specs.Front.{front-last}
 use Rattle.gerg_flash.specs.Grid.{sameAsLast}
 use borrow.Author.Needs.{needs}

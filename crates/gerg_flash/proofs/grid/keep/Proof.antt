@@ -1,9 +1,8 @@
 -- `gerg_flash::grid::keep` meets its contract. Assumes nothing.
 use lib.ListN.{length-set}
-use Rattle.gerg_flash.specs.GridArray.{Kept}
 use native.Mathlib.Omega.{arith}
-use lib.ListN.{length, take}
-use mathlib.Core.Path.{_≡_, refl, sym, ap, _∙_}
+use lib.ListN.{length}
+use mathlib.Core.Path.{_∙_}
 use Rattle.gerg_flash.specs.Front.{front-more}
 use Rattle.gerg_flash.specs.Grid.{kept}
 use borrow.Author.Needs.{needs}

@@ -2,9 +2,8 @@
 use lib.Dec.{ltb}
 use mathlib.Core.Bool.{true, false}
 use borrow.Author.Tests.{lt-ltb, le-ltb}
-use Prim.Native.Nat.{_<_, _≤_}
-use mathlib.Core.Path.{_≡_, ap, _∙_}
-use Rattle.gerg_flash.specs.Grid.{pointAt, clamped, logarithmicPoint, evenPoint}
+use mathlib.Core.Path.{_≡_, _∙_}
+use Rattle.gerg_flash.specs.Grid.{pointAt}
 use borrow.Author.Needs.{needs}
 use Rattle.gerg_flash.proofs.grid.point.Statement.{statement}
 use Rattle.gerg_flash.proofs.grid.point.Tie as tie

@@ -7,9 +7,9 @@ use Rattle.elementary.specs.Ln.{lnOf}
 use lib.ListN.{length, drop}
 use lib.Ieee.{Float}
 use Prim.Native.Nat.{_≤_, _-_}
-use mathlib.Core.Path.{_≡_, refl, sym, ap, _∙_}
+use mathlib.Core.Path.{_≡_, refl, ap, _∙_}
 use Rattle.gerg_flash.specs.GridArray.{insertFrom, sorts-begin, sorts-turn, sorts-done}
-use Rattle.gerg_flash.specs.Grid.{pointAt, turned, greatestFirst}
+use Rattle.gerg_flash.specs.Grid.{turned, greatestFirst}
 use Rattle.gerg_flash.proofs.grid.sorted_points.Statement.{statement}
 use Rattle.gerg_flash.proofs.grid.sorted_points.Tie as tie
 

@@ -5,8 +5,8 @@ use Rattle.numerics.specs.Iterate.{iter, iter-begins, iter-turn, iter-done}
 use lib.ListN.{getD}
 use lib.Dec.{leb}
 use Prim.Native.Nat.{ℕ, _≤_, _-_}
-use mathlib.Core.Bool.{Bool, true, false, _||_}
-use mathlib.Core.Path.{_≡_, ap, _∙_}
+use mathlib.Core.Bool.{false, _||_}
+use mathlib.Core.Path.{_≡_, ap}
 use Rattle.gerg_flash.specs.Roots.{beyondFive}
 use Rattle.gerg_flash.proofs.roots.beyond_five.Statement.{statement}
 use Rattle.gerg_flash.proofs.roots.beyond_five.Tie as tie

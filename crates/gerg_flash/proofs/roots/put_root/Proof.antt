@@ -3,8 +3,7 @@ use native.Mathlib.Omega.{arith}
 use borrow.Author.Needs.{needs}
 use Rattle.numerics.specs.Iterate.{iter, iter-begins, iter-turn, iter-done}
 use lib.ListN.{length, set, length-set}
-use lib.Ieee.{Float}
-use Prim.Native.Nat.{ℕ, _+_, _≤_, _-_}
+use Prim.Native.Nat.{_+_, _≤_, _-_}
 use mathlib.Core.Path.{_≡_, refl, ap, _∙_}
 use Rattle.gerg_flash.specs.Roots.{numberAt, rootWritten}
 use Rattle.gerg_flash.proofs.roots.put_root.Statement.{statement}

@@ -1,7 +1,7 @@
 -- `gerg_flash::roots::search` meets its contract. Assumes nothing.
 use borrow.Author.Needs.{needs}
 use Rattle.gerg_flash.specs.RootsLaws.{search-refused, search-found, refused-memory}
-use mathlib.Core.Path.{_≡_, refl, sym, ap, _∙_}
+use mathlib.Core.Path.{refl, sym, ap, _∙_}
 use lib.ListN.{length}
 use Rattle.gerg_flash.specs.Roots.{Kept, answerOf, memoryBy, searchedOf}
 use Rattle.gerg_flash.specs.Scan.{scanOf}

@@ -1,7 +1,6 @@
 -- `gerg_flash::sampling::halved` meets its contract. Assumes nothing.
-use mathlib.Core.Path.{_∙_, ap}
-use Rattle.gerg_flash.specs.Halving.{halvedOf, triedOf, middleOf}
-use Rattle.gerg_flash.specs.Sampling.{sampleOf}
+use mathlib.Core.Path.{_∙_}
+use Rattle.gerg_flash.specs.Halving.{halvedOf}
 use borrow.Author.Needs.{needs}
 use Rattle.gerg_flash.proofs.sampling.halved.Statement.{statement}
 use Rattle.gerg_flash.proofs.sampling.halved.Tie as tie

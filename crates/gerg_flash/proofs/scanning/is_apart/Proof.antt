@@ -1,7 +1,7 @@
 -- `gerg_flash::scanning::is_apart` meets its contract. Assumes nothing.
 use native.Mathlib.Omega.{arith}
 use Rattle.numerics.specs.Double.{_⊗_, bits}
-use lib.Ieee.{Float, lt}
+use lib.Ieee.{lt}
 use mathlib.Core.Path.{ap, _∙_}
 use Rattle.gerg_flash.specs.ScanArrays.{apart-first, apart-later}
 use borrow.Author.Needs.{needs}

@@ -2,7 +2,6 @@
 use lib.Ieee.{Float, lt}
 use mathlib.Core.Path.{ap, sym, _∙_}
 use Rattle.gerg_flash.specs.RootsArrays.{keeps-refused, keeps-interior, keeps-limit, keeps-root}
-use Rattle.gerg_flash.specs.Roots.{limitOf}
 use borrow.Author.Needs.{needs}
 use Rattle.gerg_flash.proofs.settle.keep_step.Statement.{statement}
 use Rattle.gerg_flash.proofs.settle.keep_step.Tie as tie

@@ -4,10 +4,10 @@ use borrow.Author.Needs.{needs}
 use Rattle.gerg_flash.specs.Scan.{scannedOf}
 use Rattle.gerg_tables.specs.Tables.{tables}
 use Rattle.numerics.specs.Iterate.{iter, iter-begins}
-use lib.ListN.{length, take}
+use lib.ListN.{length}
 use Prim.Native.Nat.{_≤_, _-_}
 use mathlib.Core.List.{[]}
-use mathlib.Core.Path.{_≡_, refl}
+use mathlib.Core.Path.{_≡_}
 use Rattle.gerg_flash.specs.RootsArrays.{stepAt, settles-turn, settles-done}
 use Rattle.gerg_flash.specs.Roots.{rootAt, keptOf, settledOf}
 use Rattle.gerg_flash.proofs.settle.settle.Statement.{statement}
