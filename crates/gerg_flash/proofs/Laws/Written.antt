@@ -1,0 +1,94 @@
+-- What an accepted call has written, by index. Assumes nothing.
+use mathlib.Core.Path.{_≡_, refl, ap, _∙_}
+use mathlib.Core.Logic.{inl, inr}
+use mathlib.Core.Bool.{Bool, true, false}
+use mathlib.Core.List.{List, [], _∷_}
+use Prim.Native.Nat.{ℕ, zero, suc, _+_, _*_, _≤_, _<_}
+use native.Mathlib.Nat.{eq-or-lt-of-le, mul-le-mul-right, le-of-suc-le-suc}
+use native.Mathlib.Omega.{arith}
+use borrow.Author.Tests.{ltb-false}
+use lib.Dec.{eqb, ltb}
+use lib.Ieee.{Float, nan}
+use lib.ListN.{length, getD}
+use lib.Seq.{getD-set-same, getD-set-other}
+use Rattle.numerics.specs.Double.{pick}
+use Rattle.numerics.specs.Iterate.{iter}
+use Rattle.gerg_tables.specs.declared.Tables.{Tables}
+use Rattle.gerg.specs.declared.GergModel.{GergModel}
+use Rattle.gerg.specs.declared.Range.{Range}
+use Rattle.gerg_flash.specs.Roots.{Kept, needed, numberAt, rootWritten, rootsWritten, answerOf, beyondFive, withinEnvelope, searchedOf, rootsOf}
+use Rattle.gerg_flash.specs.RootsLaws.{length-root, length-roots}
+use Rattle.gerg_flash.specs.RootList.{rootList}
+use Rattle.gerg_flash.specs.declared.RootsAnswer.the-variants.{Roots, Refused}
+
+-- ---- one root's numbers
+written-at : (h c : List Float) (m at : ℕ) (l : List Float) (j : ℕ) → j < m → at + m ≤ length l → getD (rootWritten h c m at l) (at + j) nan ≡ numberAt h c j
+unfolding rootWritten iter
+written-at h c zero at l j k f = absurd (omega arith)
+written-at h c (suc m) at l j k f = elim (eq-or-lt-of-le {n = j} {m = m} (le-of-suc-le-suc k)) [
+  | inl e ↦ rw e (getD-set-same (rootWritten h c m at l) (at + m) (numberAt h c m) nan (omega (arith, length-root h c m at l)))
+  | inr i ↦ getD-set-other (rootWritten h c m at l) (at + m) (at + j) (numberAt h c m) nan (λ e. apart at j m i e) ∙ written-at h c m at l j i (omega arith)
+]
+  where
+    apart : (at j m : ℕ) → j < m → at + j ≡ at + m → ⊥
+    apart at j m i e = omega arith
+
+-- what stands before it stays
+stays-below : (h c : List Float) (m at : ℕ) (l : List Float) (i : ℕ) → i < at → getD (rootWritten h c m at l) i nan ≡ getD l i nan
+unfolding rootWritten iter
+stays-below h c zero at l i k = refl
+stays-below h c (suc m) at l i k = getD-set-other (rootWritten h c m at l) (at + m) i (numberAt h c m) nan (λ e. apart at i m k e) ∙ stays-below h c m at l i k
+  where
+    apart : (at i m : ℕ) → i < at → i ≡ at + m → ⊥
+    apart at i m k e = omega arith
+
+-- ---- number j of root k stands at k × m + j
+pub roots-at : (hs cs : List (List Float)) (m n : ℕ) (l : List Float) (k j : ℕ) → k < n → j < m → n * m ≤ length l → getD (rootsWritten hs cs m n l) (k * m + j) nan ≡ numberAt (getD hs k []) (getD cs k []) j
+unfolding rootsWritten iter
+roots-at hs cs m zero l k j a b f = absurd (omega arith)
+roots-at hs cs m (suc n) l k j a b f = elim (eq-or-lt-of-le {n = k} {m = n} (le-of-suc-le-suc a)) [
+  | inl e ↦ rw e (written-at (getD hs n []) (getD cs n []) m (n * m) (rootsWritten hs cs m n l) j b (omega (arith, length-roots hs cs m n l)))
+  | inr i ↦ stays-below (getD hs n []) (getD cs n []) m (n * m) (rootsWritten hs cs m n l) (k * m + j) (omega (arith, mul-le-mul-right m i)) ∙ roots-at hs cs m n l k j i b (omega arith)
+]
+
+-- ---- the list of the densities
+pub list-at : (hs : List (List Float)) (i : ℕ) → getD (rootList hs) i nan ≡ getD (getD hs i []) 0 nan
+unfolding rootList
+list-at [] i = refl
+list-at (h ∷ hs) zero = refl
+list-at (h ∷ hs) (suc i) = list-at hs i
+
+pub list-length : (hs : List (List Float)) → length (rootList hs) ≡ length hs
+unfolding rootList
+list-length [] = refl
+list-length (h ∷ hs) = ap suc (list-length hs)
+
+-- ---- what an accepted call tells
+pub record Accepted (m : GergModel) (lent n : ℕ) (k : Kept) : Type 0 where
+  pub count : length (k .heads) ≡ n
+  pub room : length (k .heads) * (4 + m .components) ≤ lent
+
+unlike : {A : Type 0} (number value n : ℕ) → Refused number value ≡ Roots n → A
+unlike number value n e = absurd (clash number value n e)
+  where
+    clash : (number value n : ℕ) → Refused number value ≡ Roots n → ⊥
+    clash number value n e = let z : _≡_ {A = ℕ} 0 1 = cc in omega arith
+
+answer-accepted : (m : GergModel) (lent n : ℕ) (k : Kept) → answerOf m lent k ≡ Roots n → Accepted m lent n k
+unfolding answerOf
+answer-accepted m lent n k = go (eqb (k .refused) 0) (eqb (length (k .heads)) 0) (ltb lent (needed m k)) refl
+  where
+    go : (a b c : Bool) → ltb lent (needed m k) ≡ c → pick a (pick b (Refused 23 0) (pick c (Refused 24 (needed m k)) (Roots (length (k .heads))))) (Refused (k .refused) 0) ≡ Roots n → Accepted m lent n k
+    go false b c l e = unlike (k .refused) 0 n e
+    go true true c l e = unlike 23 0 n e
+    go true false true l e = unlike 24 (needed m k) n e
+    go true false false l e = record { count = cc; room = ltb-false lent (needed m k) l }
+
+pub roots-accepted : (t : Tables) (m : GergModel) (gradients : List (List Float)) (range : Range) (temperature target : Float) (lent n : ℕ) → rootsOf t m gradients range temperature target lent ≡ Roots n → Accepted m lent n (searchedOf t m gradients range temperature target)
+unfolding rootsOf
+roots-accepted t m gradients range temperature target lent n = go (beyondFive m) (withinEnvelope temperature target)
+  where
+    go : (a b : Bool) → pick a (Refused 20 0) (pick b (answerOf m lent (searchedOf t m gradients range temperature target)) (Refused 21 0)) ≡ Roots n → Accepted m lent n (searchedOf t m gradients range temperature target)
+    go true b e = unlike 20 0 n e
+    go false false e = unlike 21 0 n e
+    go false true e = answer-accepted m lent n (searchedOf t m gradients range temperature target) e
