@@ -8,15 +8,15 @@ use lib.ListN.{length, getD, set, take, replicate}
 use Rattle.numerics.specs.Double.{_⊗_, bits, +0, pick}
 use Rattle.numerics.specs.Iterate.{iter}
 use Rattle.gerg_tables.specs.declared.Tables.{Tables}
-use Rattle.gerg.specs.declared.GergModel.{GergModel}
+use Rattle.gerg_model.specs.declared.GergModel.{GergModel}
 use Rattle.gerg.specs.declared.GergState.{GergState}
 use Rattle.gerg.specs.declared.Range.{Range}
 use Rattle.gerg.specs.declared.evaluate.EvaluateAnswer.{EvaluateAnswer}
 use Rattle.gerg.specs.declared.evaluate.EvaluateAnswer.the-variants as evaluated
-use Rattle.gerg.specs.declared.fugacity.FugacityCheck.{FugacityCheck}
-use Rattle.gerg.specs.declared.fugacity.FugacityCheck.the-variants as checked
+use Rattle.gerg_fugacity.specs.declared.fugacity.FugacityCheck.{FugacityCheck}
+use Rattle.gerg_fugacity.specs.declared.fugacity.FugacityCheck.the-variants as checked
 use Rattle.gerg.specs.Evaluate.{evaluateOf}
-use Rattle.gerg.specs.Fugacity.{fugacityOf, fugacityMemory}
+use Rattle.gerg_fugacity.specs.Fugacity.{fugacityOf, fugacityMemory}
 use Rattle.gerg_flash.specs.Grid.{gridOf}
 use Rattle.gerg_flash.specs.Halving.{largerOf}
 use Rattle.gerg_flash.specs.Scan.{Scanned, scanOf}

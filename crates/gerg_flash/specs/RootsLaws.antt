@@ -10,7 +10,7 @@ use lib.ListN.{length, getD, take, length-set}
 use lib.Seq.{getD-take, length-take-le}
 use Rattle.numerics.specs.Iterate.{iter, iter-turn}
 use Rattle.gerg_tables.specs.declared.Tables.{Tables}
-use Rattle.gerg.specs.declared.GergModel.{GergModel}
+use Rattle.gerg_model.specs.declared.GergModel.{GergModel}
 use Rattle.gerg.specs.declared.Range.{Range}
 use Rattle.gerg_flash.specs.Roots as is
 use Rattle.gerg_flash.specs.Scan.{Scanned, scannedOf}

@@ -5,15 +5,15 @@ use crate::Settled;
 use crate::grid;
 use crate::sampling;
 use crate::settle;
-use gerg::GergModel;
+use gerg_model::GergModel;
 use gerg::Range;
 use gerg::isotherm;
-use gerg::mixture;
+use gerg_model::mixture;
 ghost use mathlib.Core.Path.{_≡_};
 ghost use Prim.Native.Nat.{_+_, _*_, _<_, _≤_};
 ghost use lib.ListN.{length, take};
 ghost use Rattle.gerg_tables.specs.Tables.{tables, Shaped};
-ghost use Rattle.gerg.specs.Mixture.{Listed};
+ghost use Rattle.gerg_model.specs.Mixture.{Listed};
 ghost use Rattle.gerg_flash.specs.Roots as is;
 
 // Row 20: a listed component that is not one of the first five.

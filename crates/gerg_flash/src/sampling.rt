@@ -5,7 +5,7 @@ use crate::Sample;
 use crate::Scan;
 use crate::halve;
 use crate::scanning;
-use gerg::GergModel;
+use gerg_model::GergModel;
 use gerg::Range;
 use gerg::derivatives::GergDerivatives;
 use gerg::helmholtz;

@@ -14,7 +14,7 @@ use lib.Seq.{getD-set-same, getD-set-other}
 use Rattle.numerics.specs.Double.{pick}
 use Rattle.numerics.specs.Iterate.{iter}
 use Rattle.gerg_tables.specs.declared.Tables.{Tables}
-use Rattle.gerg.specs.declared.GergModel.{GergModel}
+use Rattle.gerg_model.specs.declared.GergModel.{GergModel}
 use Rattle.gerg.specs.declared.Range.{Range}
 use Rattle.gerg_flash.specs.Roots.{Kept, needed, numberAt, rootWritten, rootsWritten, answerOf, beyondFive, withinEnvelope, searchedOf, rootsOf}
 use Rattle.gerg_flash.specs.RootsLaws.{length-root, length-roots}
