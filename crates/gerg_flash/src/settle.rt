@@ -3,13 +3,13 @@
 use crate::Scan;
 use crate::Settled;
 use crate::halve;
-use gerg_model::GergModel;
 use gerg::GergState;
 use gerg::Range;
 use gerg::evaluate;
 use gerg::evaluate::EvaluateAnswer;
 use gerg_fugacity::fugacity;
 use gerg_fugacity::fugacity::FugacityCheck;
+use gerg_model::GergModel;
 ghost use mathlib.Core.Path.{_≡_};
 ghost use Prim.Native.Nat.{_<_, _≤_};
 ghost use lib.ListN.{length};
