@@ -21,7 +21,7 @@ use Rattle.gerg.specs.Evaluate.{evaluateOf}
 use Rattle.gerg_density.specs.Checks.{targetRefused}
 use Rattle.gerg_density.specs.Point.{withinOf}
 use Rattle.gerg_density.specs.Trial.{trialPressure, trialStiffness, sampleOf}
-use Rattle.gerg_density.specs.Run.{outcomeOf, trialsOf}
+use Rattle.gerg_density.specs.Run.{lastOf, outcomeOf, trialsOf}
 use Rattle.gerg_density.specs.Density.{trialOf, verdictOf, searchOf, densityTrials, residualOf, beyondOf, checkedOf, finishedOf, densityOf}
 use Rattle.gerg_density.specs.Verdicts.{Fair, Doubles, Outside, Tried, Limited, Neighbours}
 use Rattle.gerg_density.specs.declared.Bracket.{Bracket}
@@ -109,7 +109,7 @@ module _ (t : Tables) (m : GergModel) (range : Range) (temperature target : Floa
   never-19 = any.never-19 (range .«pressure_high») target o (verdictOf t m range temperature target) doubles fairly
 
   -- "19 only with as many trials as the limit and a double still between the ends"
-  pub limit-reached : (k : ℕ) → searchOf t m range temperature target o ≡ Failed 19 k → Limited o (densityTrials t m range temperature target o)
+  pub limit-reached : (k : ℕ) → searchOf t m range temperature target o ≡ Failed 19 k → Limited o (verdictOf t m range temperature target) (lastOf o (verdictOf t m range temperature target)) (densityTrials t m range temperature target o)
   unfolding searchOf densityTrials
   limit-reached = any.limit-reached (range .«pressure_high») target o (verdictOf t m range temperature target) doubles fairly
 

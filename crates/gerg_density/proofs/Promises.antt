@@ -122,11 +122,11 @@ module _ (high target : Float) (o : Options) (v : Float → Sample) (doubles : D
   limit-count k e = failed 19 k e (omega arith) (omega arith) .2
 
   -- "19 only with as many trials as the limit and a double still between the ends"
-  pub limit-reached : (k : ℕ) → outcomeOf high target o v ≡ Failed 19 k → Limited o (trialsOf high target o v)
+  pub limit-reached : (k : ℕ) → outcomeOf high target o v ≡ Failed 19 k → Limited o v (lastOf o v) (trialsOf high target o v)
   unfolding answerOf
   limit-reached k e =
       let f = failed 19 k e (omega arith) (omega arith) in
-      subst (λ (l : List Float). Limited o l) (sym (f .0 .list)) (f .0 .done .known .limited (f .1))
+      subst (λ (l : List Float). Limited o v (lastOf o v) l) (sym (f .0 .list)) (f .0 .done .known .limited (f .1))
 
   -- "Under a limit of 600 or more the answer is never 19"
   pub never-19 : 600 ≤ o .limit → (k : ℕ) → outcomeOf high target o v ≡ Failed 19 k → ⊥

@@ -8,9 +8,9 @@ use lib.Dec.{T}
 use lib.Ieee.{Float, binary64, fits, isNan, lt}
 use lib.ListN.{length}
 use Rattle.numerics.specs.Double.{+0}
-use Rattle.gerg_density.specs.Point.{withinOf}
-use Rattle.gerg_density.specs.declared.Bracket.{Bracket}
+use Rattle.gerg_density.specs.Point.{narrowedOf, withinOf}
 use Rattle.gerg_density.specs.declared.Options.{Options}
+use Rattle.gerg_density.specs.declared.Search.{Search}
 use Rattle.gerg_density.specs.declared.Sample.{Sample}
 use Rattle.gerg_density.specs.declared.Sample.the-variants.{Residual, Stopped}
 
@@ -48,11 +48,13 @@ pub record Neighbours (o : Options) (v : Float → Sample) (l : List Float) : Ty
   pub above : Outside o v false high
   pub over : T (lt +0 (above .f))
 
--- Row 19: as many trials as the limit, and a double still between the ends
-pub record Limited (o : Options) (l : List Float) : Type 0 where
+-- Row 19: as many trials as the limit, and a double still between the ends as the last trial left them; s is the state of that trial
+pub record Limited (o : Options) (v : Float → Sample) (s : Search) (l : List Float) : Type 0 where
   pub trials : length l ≡ o .limit
-  pub bracket : Bracket
+  pub f : Float
+  pub derivative : Float
+  pub is : v (s .density) ≡ Residual f derivative
   pub between : Float
   pub held : T (fits binary64 between)
-  pub over : T (lt (bracket .lo) between)
-  pub under : T (lt between (bracket .hi))
+  pub over : T (lt (narrowedOf (s .bracket) (s .density) f .lo) between)
+  pub under : T (lt between (narrowedOf (s .bracket) (s .density) f .hi))

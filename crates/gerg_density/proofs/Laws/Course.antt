@@ -109,7 +109,7 @@ pub record Known (o : Options) (v : Float → Sample) (l : List Float) (s : Sear
   pub ended : (x : Float) → a ≡ Try x → ⊥
   pub accepted : (x : Float) → a ≡ Accepted x → T (le (o .bracket .lo) x) × T (le x (o .bracket .hi))
   pub collapses : a ≡ Refused 18 → Collapsed o v l
-  pub limited : a ≡ Refused 19 → Limited o l
+  pub limited : a ≡ Refused 19 → Limited o v s l
 
 -- the state that a step ends
 abbrev pub Ends : Options → (Float → Sample) → List Float → Search → Type 0
@@ -194,7 +194,7 @@ module _ (o : Options) (v : Float → Sample) (fair : Fair v) (gl : Good (o .bra
             | inr u ↦ unlike 18 19 (u .0) (omega arith)
           ]
 
-      limit : (y : Sample) → v (s .density) ≡ y → s .trials ≡ length l → stepOf o s y ≡ Refused 19 → Limited o l
+      limit : (y : Sample) → v (s .density) ≡ y → s .trials ≡ length l → stepOf o s y ≡ Refused 19 → Limited o v s l
       limit (Stopped m) w cs q = absurd (early m (fair .before (s .density) m w) .1 (ap number q))
       limit (Residual f d) w cs q =
           let z = refuses o s f d 19 (sym (ap (stageOf o s f d) (i .stage)) ∙ q) in
@@ -205,7 +205,9 @@ module _ (o : Options) (v : Float → Sample) (fair : Fair v) (gl : Good (o .bra
                 let g = next-shrinks (after s f) (s .density) f d (b .ranged) (u .1) in
                 record {
                   trials = sym cs ∙ le-antisymm (h .made) (leb→le (o .limit) (s .trials) (subst T (sym (u .2)) tt));
-                  bracket = after s f;
+                  f = f;
+                  derivative = d;
+                  is = w;
                   between = next s f d;
                   held = g .good .held;
                   over = count→lt (after s f .lo) (next s f d) (b .ranged .low) (g .good) (g .over);
