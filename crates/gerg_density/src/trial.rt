@@ -2,21 +2,20 @@
 
 use crate::Sample;
 use crate::checks;
+use gerg::evaluate::GERG_GAS_CONSTANT;
 ghost use mathlib.Core.Path.{_≡_};
 ghost use Rattle.gerg_density.specs.Trial.{trialPressure, trialStiffness, scaleOf, sampleOf};
-
-const GAS_CONSTANT: f64 = 8.314472;
 
 pub fn pressure(temperature: f64, rho: f64, ar_d: f64) -> f64
     ensures { λ r. ⌜ r ≡ trialPressure temperature rho «ar_d» ⌝ }
 {
-    rho * (GAS_CONSTANT * temperature) * (1.0 + ar_d)
+    rho * (GERG_GAS_CONSTANT * temperature) * (1.0 + ar_d)
 }
 
 pub fn stiffness(temperature: f64, ar_d: f64, ar_dd: f64) -> f64
     ensures { λ r. ⌜ r ≡ trialStiffness temperature «ar_d» «ar_dd» ⌝ }
 {
-    GAS_CONSTANT * temperature * (1.0 + 2.0 * ar_d + ar_dd)
+    GERG_GAS_CONSTANT * temperature * (1.0 + 2.0 * ar_d + ar_dd)
 }
 
 // The larger of the target and 1 Pa.
