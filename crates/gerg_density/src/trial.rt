@@ -1,8 +1,8 @@
 // The trial of a density, from the derivatives of the Helmholtz energy there.
 
 use crate::Sample;
-use crate::checks;
 use gerg::evaluate::GERG_GAS_CONSTANT;
+use gerg_model::mixture::is_finite;
 ghost use mathlib.Core.Path.{_≡_};
 ghost use Rattle.gerg_density.specs.Trial.{trialPressure, trialStiffness, scaleOf, sampleOf};
 
@@ -32,7 +32,7 @@ pub fn scale(target: f64) -> f64
 pub fn sample(target: f64, p: f64, derivative: f64) -> Sample
     ensures { λ r. ⌜ r ≡ sampleOf target p derivative ⌝ }
 {
-    if !checks::is_finite(p) | !checks::is_finite(derivative) {
+    if !is_finite(p) | !is_finite(derivative) {
         return Sample::Stopped(12);
     }
     if derivative <= 0.0 {
