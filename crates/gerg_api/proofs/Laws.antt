@@ -20,7 +20,9 @@ use Rattle.gerg_model.specs.MixtureAccepted.{accepted, listed}
 use Rattle.gerg_model.specs.Mixture.{modelOf, gradientsOf, reducingSound, Listed}
 use Rattle.gerg_api.specs.Mixed.{refusedMixture, soundMixture, reducedMixture, checkedMixture, checkedFrom, afterFile, mixedFrom, mixedOf}
 use Rattle.gerg_density.specs.declared.DensityAnswer.{DensityAnswer}
+use Rattle.gerg_flash.specs.declared.RootsAnswer.{RootsAnswer}
 use Rattle.gerg_api.specs.Calls.{afterRows, memoryRows, searchedAfter}
+use Rattle.gerg_api.specs.Equilibrium.{rootsAfter}
 use Rattle.gerg_api.specs.declared.PropertiesAnswer.{PropertiesAnswer}
 use Rattle.gerg_api.specs.declared.Mixed.{Mixed}
 use Rattle.gerg_api.specs.declared.Refusal.{Refusal}
@@ -105,3 +107,7 @@ passed-test b x y e = rw e
 pub search-nothing : (r : Refusal) (later : DensityAnswer) → r ≡ Nothing → searchedAfter r later ≡ later
 unfolding searchedAfter
 search-nothing r later e = rw e
+
+pub roots-nothing : (r : Refusal) (later : RootsAnswer) → r ≡ Nothing → rootsAfter r later ≡ later
+unfolding rootsAfter
+roots-nothing r later e = rw e

@@ -3,12 +3,15 @@ use crate::PropertiesAnswer;
 use crate::density;
 use crate::fugacity;
 use crate::properties;
+use crate::roots;
 use gerg::GergState;
 use gerg_density::DensityAnswer;
 use gerg_density::DensityResult;
+use gerg_flash::RootsAnswer;
 ghost use mathlib.Core.Path.{_≡_};
 ghost use Rattle.gerg_density.specs.Density.{optionsOf};
 ghost use Rattle.gerg_api.specs.Calls as is;
+ghost use Rattle.gerg_api.specs.Equilibrium as equilibrium;
 
 fn code(number: u8, value: usize) -> u64
     ensures { λ r. ⌜ r ≡ is.codeOf number value ⌝ }
@@ -200,4 +203,29 @@ pub extern "C" fn gerg_density(
     );
     put_density(answer, out);
     density_code(answer)
+}
+
+fn roots_code(answer: RootsAnswer) -> u64
+    ensures { λ r. ⌜ r ≡ equilibrium.rootsCode answer ⌝ }
+{
+    match answer {
+        RootsAnswer::Roots(n) => code(0, n),
+        RootsAnswer::Refused { number, value } => code(number, value),
+    }
+}
+
+#[no_mangle]
+pub extern "C" fn gerg_outer_roots(
+    file: &[u8],
+    list: &[u8],
+    fractions: &[f64],
+    t: f64,
+    p: f64,
+    out: &mut [f64],
+) -> u64
+    ensures answer { λ r. ⌜ r ≡ equilibrium.rootsCode (equilibrium.rootsCall (now (file .entry)) (now (list .entry)) (now (fractions .entry)) t p (now (out .entry))) ⌝ }
+    ensures memory { λ r. ⌜ now (out .exit) ≡ equilibrium.rootsWritten (now (file .entry)) (now (list .entry)) (now (fractions .entry)) t p (now (out .entry)) ⌝ }
+{
+    let answer = roots::outer_roots(file, list, fractions, t, p, out);
+    roots_code(answer)
 }

@@ -6,6 +6,7 @@ pub mod density;
 pub mod export;
 pub mod fugacity;
 pub mod properties;
+pub mod roots;
 pub mod rows;
 
 // Rows 1 to 5: nothing refused, or document 01's number and value.
