@@ -21,6 +21,9 @@ positiveFractions m = iter (λ k n. pick (lt +0 (fractionAt m k)) (n + 1) n) (m 
 unfoldable pub positivePlace : GergModel → ℕ
 positivePlace m = iter (λ k place. pick (lt +0 (fractionAt m k)) k place) (m .components) 0
 
--- "saturation: not one positive fraction, or ends nonfinite or not rising": row 25
+-- "saturation: not one positive fraction, or ends nonfinite or not rising": row 25. n is the number of positive fractions
+unfoldable pub refusedBy : ℕ → Float → Float → Bool
+refusedBy n lo hi = not (eqb n 1) || not (finite lo) || not (finite hi) || not (lt lo hi)
+
 unfoldable pub saturationRefused : GergModel → Float → Float → Bool
-saturationRefused m lo hi = not (eqb (positiveFractions m) 1) || not (finite lo) || not (finite hi) || not (lt lo hi)
+saturationRefused m lo hi = refusedBy (positiveFractions m) lo hi

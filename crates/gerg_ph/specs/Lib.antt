@@ -3,3 +3,6 @@ pub mod Checks
 pub mod Sampling
 pub mod Halvings
 pub mod Saturation
+pub mod SamplingLaws
+pub mod HalvingsLaws
+pub mod SaturationLaws

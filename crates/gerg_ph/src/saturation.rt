@@ -229,7 +229,7 @@ pub fn pure_saturation<'a>(
     ensures { λ r. ⌜ r ≡ pureSaturationOf (tables (now (doubles .entry)) (now (integers .entry))) model (now (gradients .entry)) range pressure lo hi limit ⌝ }
 {
     let p = checks::positive(model);
-    if checks::refused(p, model, lo, hi) {
+    if checks::refused(p.count, lo, hi) {
         return SaturationAnswer::Refused {
             number: 25,
             value: 0,

@@ -1,17 +1,23 @@
+-- `refused` meets its contract, by the equations of its calls. Assumes nothing.
 use borrow.Author.Needs.{needs}
+use Rattle.gerg_ph.specs.Checks.{refusedBy}
 use Rattle.gerg_ph.proofs.checks.refused.Statement.{statement}
 use Rattle.gerg_ph.proofs.checks.refused.Tie as tie
-use Rattle.gerg_ph.proofs.checks.refused.Reads as reads
-use Rattle.gerg_ph.proofs.checks.refused.Lts as lts
-use Rattle.gerg_ph.proofs.checks.ends_refused.Reads as ends-refused-reads
 
--- src/checks.rt:49:22
-ends-refused-requires : tie.Need-ends-refused-requires
-ends-refused-requires c κs = search needs
+is-finite-requires : tie.Need-is-finite-requires
+is-finite-requires c κs = search needs
 
--- src/checks.rt:45:1
+is-finite-requires-2 : tie.Need-is-finite-requires-2
+is-finite-requires-2 c κs = search needs
+
 returns : tie.Need-returns
-returns c = ?
+unfolding refusedBy
+returns c = cc
 
 pub refused-spec : {M : Type 1} → statement M
-refused-spec = tie.close (tie.spec ends-refused-requires returns)
+refused-spec =
+    tie.close
+    (tie.spec
+    is-finite-requires
+    is-finite-requires-2
+    returns)

@@ -1,11 +1,12 @@
+-- `between` meets its contract. Assumes nothing.
+use mathlib.Core.Path.{refl}
+use Rattle.gerg_ph.specs.Halvings.{betweenOf}
 use Rattle.gerg_ph.proofs.halving.between.Statement.{statement}
 use Rattle.gerg_ph.proofs.halving.between.Tie as tie
-use Rattle.gerg_ph.proofs.halving.between.Reads as reads
-use Rattle.gerg_ph.proofs.halving.between.Lts as lts
 
--- src/halving.rt:16:1
 returns : tie.Need-returns
-returns c = ?
+unfolding betweenOf
+returns c = refl
 
 pub between-spec : {M : Type 1} → statement M
 between-spec = tie.close (tie.spec returns)

@@ -1,15 +1,15 @@
+-- `narrowed` meets its contract: each way rewrites the test that led there. Assumes nothing.
+use Rattle.gerg_ph.specs.Halvings.{narrowedOf}
 use Rattle.gerg_ph.proofs.halving.narrowed.Statement.{statement}
 use Rattle.gerg_ph.proofs.halving.narrowed.Tie as tie
-use Rattle.gerg_ph.proofs.halving.narrowed.Reads as reads
-use Rattle.gerg_ph.proofs.halving.narrowed.Lts as lts
 
--- src/halving.rt:44:9
 returns : tie.Need-returns
-returns c = ?
+unfolding narrowedOf
+returns c = rw (c .if1 .taken)
 
--- src/halving.rt:40:1
 returns-2 : tie.Need-returns-2
-returns-2 c = ?
+unfolding narrowedOf
+returns-2 c = rw (c .if1 .left)
 
 pub narrowed-spec : {M : Type 1} → statement M
 narrowed-spec = tie.close (tie.spec returns returns-2)

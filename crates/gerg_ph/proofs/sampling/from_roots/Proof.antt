@@ -1,66 +1,51 @@
+-- `from_roots` meets its contract, by the ways of a sample. Assumes nothing.
 use borrow.Author.Needs.{needs}
+use native.Mathlib.Omega.{arith}
+use Rattle.gerg_ph.specs.SamplingLaws.{from-refused, from-none, from-single, from-more}
 use Rattle.gerg_ph.proofs.sampling.from_roots.Statement.{statement}
 use Rattle.gerg_ph.proofs.sampling.from_roots.Tie as tie
-use Rattle.gerg_ph.proofs.sampling.from_roots.Reads as reads
-use Rattle.gerg_ph.proofs.sampling.from_roots.Lts as lts
-use Rattle.gerg_ph.proofs.sampling.coexisting.Reads as coexisting-reads
-use Rattle.gerg_ph.proofs.sampling.sign.Reads as sign-reads
 
--- src/sampling.rt:101:9
 returns : tie.Need-returns
-returns c = ?
+returns c = from-refused _ _ _ _ (c .before .before .args .s) (c .before .before .args .heads .now) (c .before .before .args .coefficients .now) (omega (arith, c .before .before .pre .0, c .before .before .pre .1)) (c .if1 .taken)
 
--- src/sampling.rt:104:9
 returns-2 : tie.Need-returns-2
-returns-2 c = ?
+returns-2 c = from-none _ _ _ _ (c .before .before .before .args .s) (c .before .before .before .args .heads .now) (c .before .before .before .args .coefficients .now) (omega (arith, c .before .before .before .pre .0, c .before .before .before .pre .1)) (c .before .if1 .left) (c .if2 .taken)
 
--- src/sampling.rt:107:54
 index-1-sign : tie.Need-index-1-sign
 index-1-sign c = search needs
 
--- src/sampling.rt:107:31
 sign-requires : tie.Need-sign-requires
 sign-requires c κs = search needs
 
--- src/sampling.rt:107:9
 returns-3 : tie.Need-returns-3
-returns-3 c = ?
+returns-3 c = from-single _ _ _ _ (c .before .before .before .before .before .before .args .s) (c .before .before .before .before .before .before .args .heads .now) (c .before .before .before .before .before .before .args .coefficients .now) (omega (arith, c .before .before .before .before .before .before .pre .0, c .before .before .before .before .before .before .pre .1)) _ (c .before .before .before .before .if1 .left) (c .before .before .before .if2 .left) (c .before .before .if3 .taken) (c .sign .ensures)
 
--- src/sampling.rt:109:16
 sub-last : tie.Need-sub-last
 sub-last c = search needs
 
--- src/sampling.rt:114:9
 mul-coexisting : tie.Need-mul-coexisting
 mul-coexisting c = search needs
 
--- src/sampling.rt:114:9
 index-1-coexisting : tie.Need-index-1-coexisting
 index-1-coexisting c = search needs
 
--- src/sampling.rt:115:9
 mul-coexisting-2 : tie.Need-mul-coexisting-2
 mul-coexisting-2 c = search needs
 
--- src/sampling.rt:115:9
 index-1-coexisting-2 : tie.Need-index-1-coexisting-2
 index-1-coexisting-2 c = search needs
 
--- src/sampling.rt:116:9
 index-1-coexisting-3 : tie.Need-index-1-coexisting-3
 index-1-coexisting-3 c = search needs
 
--- src/sampling.rt:117:9
 index-1-coexisting-4 : tie.Need-index-1-coexisting-4
 index-1-coexisting-4 c = search needs
 
--- src/sampling.rt:110:5
 coexisting-requires : tie.Need-coexisting-requires
 coexisting-requires c κs = search needs
 
--- src/sampling.rt:87:1
 returns-4 : tie.Need-returns-4
-returns-4 c = ?
+returns-4 c = from-more _ _ _ _ (c .before .before .before .before .before .before .before .before .before .args .s) (c .before .before .before .before .before .before .before .before .before .args .heads .now) (c .before .before .before .before .before .before .before .before .before .args .coefficients .now) (omega (arith, c .before .before .before .before .before .before .before .before .before .pre .0, c .before .before .before .before .before .before .before .before .before .pre .1)) _ (c .before .before .before .before .before .before .before .if1 .left) (c .before .before .before .before .before .before .if2 .left) (c .before .before .before .before .before .if3 .left) (c .coexisting .ensures)
 
 pub from-roots-spec : {M : Type 1} → statement M
 from-roots-spec =

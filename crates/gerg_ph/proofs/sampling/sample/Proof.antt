@@ -1,35 +1,27 @@
+-- `sample` meets its contract, by rows 20 and 21. Assumes nothing.
 use borrow.Author.Needs.{needs}
+use mathlib.Core.Path.{sym, _∙_}
+use Rattle.gerg_ph.specs.SamplingLaws.{sample-beyond, sample-outside, sample-inside}
 use Rattle.gerg_ph.proofs.sampling.sample.Statement.{statement}
 use Rattle.gerg_ph.proofs.sampling.sample.Tie as tie
-use Rattle.gerg_ph.proofs.sampling.sample.Reads as reads
-use Rattle.gerg_ph.proofs.sampling.sample.Lts as lts
-use Rattle.gerg_flash.proofs.roots.beyond_five.Reads as beyond-five-reads
-use Rattle.gerg_flash.proofs.roots.within_envelope.Reads as within-envelope-reads
-use Rattle.gerg_ph.proofs.sampling.at_roots.Reads as at-roots-reads
 
--- src/sampling.rt:174:8
 beyond-five-requires : tie.Need-beyond-five-requires
 beyond-five-requires c κs = search needs
 
--- src/sampling.rt:175:9
 returns : tie.Need-returns
-returns c = ?
+returns c = sample-beyond _ _ _ _ _ _ (sym (c .before .beyond-five .ensures) ∙ c .if1 .taken)
 
--- src/sampling.rt:177:8
 within-envelope-requires : tie.Need-within-envelope-requires
 within-envelope-requires c κs = search needs
 
--- src/sampling.rt:178:9
 at-roots-requires : tie.Need-at-roots-requires
 at-roots-requires c κs = search needs
 
--- src/sampling.rt:178:9
 returns-2 : tie.Need-returns-2
-returns-2 c = ?
+returns-2 c = c .at-roots .ensures ∙ sample-inside _ _ _ _ _ _ _ (sym (c .before .before .before .before .beyond-five .ensures) ∙ c .before .before .before .if1 .left) (sym (c .before .before .within-envelope .ensures) ∙ c .before .if2 .taken) (c .before .before .before .before .before .pre .2)
 
--- src/sampling.rt:161:1
 returns-3 : tie.Need-returns-3
-returns-3 c = ?
+returns-3 c = sample-outside _ _ _ _ _ _ (sym (c .before .before .before .beyond-five .ensures) ∙ c .before .before .if1 .left) (sym (c .before .within-envelope .ensures) ∙ c .if2 .left)
 
 pub sample-spec : {M : Type 1} → statement M
 sample-spec =

@@ -1,20 +1,19 @@
+-- `sign` meets its contract: each way rewrites the test that led there. Assumes nothing.
+use Rattle.gerg_ph.specs.Sampling.{signOf}
 use borrow.Author.Needs.{needs}
 use Rattle.gerg_ph.proofs.sampling.sign.Statement.{statement}
 use Rattle.gerg_ph.proofs.sampling.sign.Tie as tie
-use Rattle.gerg_ph.proofs.sampling.sign.Reads as reads
-use Rattle.gerg_ph.proofs.sampling.sign.Lts as lts
 
--- src/sampling.rt:37:8
 element-copy-out-if1 : tie.Need-element-copy-out-if1
 element-copy-out-if1 c = search needs
 
--- src/sampling.rt:38:9
 returns : tie.Need-returns
-returns c = ?
+unfolding signOf
+returns c = rw (c .if1 .taken)
 
--- src/sampling.rt:34:1
 returns-2 : tie.Need-returns-2
-returns-2 c = ?
+unfolding signOf
+returns-2 c = rw (c .if1 .left)
 
 pub sign-spec : {M : Type 1} → statement M
 sign-spec = tie.close (tie.spec element-copy-out-if1 returns returns-2)

@@ -1,87 +1,71 @@
+-- `halvings` meets its contract. The invariant is `Ahead`: what is left to do ends where the whole ends; each need is one law of it. Assumes nothing.
+use borrow.Author.Needs.{needs}
+use native.Mathlib.Omega.{arith}
+use mathlib.Core.Path.{sym, ap, _∙_}
+use Prim.Native.Nat.{_-_}
+use Rattle.gerg_tables.specs.Tables.{tables}
+use Rattle.gerg_ph.specs.HalvingsLaws.{Ahead, begins, done, room, accepted, refused, ended, again}
+use Rattle.gerg_ph.specs.Saturation.{verdictAt}
+use Rattle.gerg_ph.specs.declared.SaturationAnswer.the-variants.{Found}
 use Rattle.gerg_ph.proofs.saturation.halvings.Statement.{statement}
 use Rattle.gerg_ph.proofs.saturation.halvings.Tie as tie
-use Rattle.gerg_ph.proofs.saturation.halvings.Reads as reads
-use Rattle.gerg_ph.proofs.saturation.halvings.Lts as lts
-use Rattle.gerg_ph.proofs.halving.counted.Reads as counted-reads
-use Rattle.gerg_ph.proofs.halving.middle.Reads as middle-reads
-use Rattle.gerg_ph.proofs.halving.narrowed.Reads as narrowed-reads
-use Rattle.gerg_ph.proofs.halving.on_end.Reads as on-end-reads
-use Rattle.gerg_ph.proofs.halving.with_iterations.Reads as with-iterations-reads
-use Rattle.gerg_ph.proofs.saturation.verdict_at.Reads as verdict-at-reads
 
 abbrev Inv-loop : tie.InvT-loop
-Inv-loop doubles integers gradients model range place pressure limit b₀ trials₀ k₀ b trials k = ?
+Inv-loop doubles integers gradients model range place pressure limit b₀ trials₀ k₀ b trials k = Ahead (verdictAt (tables doubles integers) model gradients range pressure) limit b₀ k trials b
 
 abbrev μ-loop : tie.MeasureT-loop
-μ-loop doubles integers gradients model range place pressure limit b₀ trials₀ k₀ b trials k = ?
+μ-loop doubles integers gradients model range place pressure limit b₀ trials₀ k₀ b trials k = limit - k
 
--- src/saturation.rt:65:5
 loop-holds : tie.Need-loop-holds Inv-loop μ-loop
-loop-holds c = ?
+loop-holds c = begins _ _ _
 
--- src/saturation.rt:66:9
 add-k : tie.Need-add-k Inv-loop μ-loop
-add-k c = ?
+add-k c = search needs
 
--- src/saturation.rt:67:13
 middle-requires : tie.Need-middle-requires Inv-loop μ-loop
-middle-requires c κs = ?
+middle-requires c κs = search needs
 
--- src/saturation.rt:68:9
 counted-requires : tie.Need-counted-requires Inv-loop μ-loop
-counted-requires c κs = ?
+counted-requires c κs = room _ _ _ _ _ _ (c .before .before .loop .inv) (c .before .loop-test .taken) (c .before .before .before .fits .limit .fits)
 
--- src/saturation.rt:69:13
 verdict-at-requires : tie.Need-verdict-at-requires Inv-loop μ-loop
-verdict-at-requires c κs = ?
+verdict-at-requires c κs = c .before .before .before .before .pre
 
--- src/saturation.rt:80:31
 enum-known-v : tie.Need-enum-known-v Inv-loop μ-loop
-enum-known-v c = ?
+enum-known-v c = search needs
 
--- src/saturation.rt:81:48
 with-iterations-requires : tie.Need-with-iterations-requires Inv-loop μ-loop
-with-iterations-requires c κs = ?
+with-iterations-requires c κs = search needs
 
--- src/saturation.rt:81:17
 returns : tie.Need-returns Inv-loop μ-loop
-returns c = ?
+returns c = ap Found (c .with-iterations .ensures) ∙ accepted _ _ _ _ _ _ (c .before .before .before .before .before .before .before .before .loop .inv) (c .before .before .before .before .before .before .before .loop-test .taken) _ _ _ (c .before .before .before .before .before .before .middle .ensures) (c .before .before .before .before .verdict-at .ensures) (c .before .before .before .before .before .counted .ensures) _ (c .before .before .v .given .1)
 
--- src/saturation.rt:83:30
 enum-known-v-2 : tie.Need-enum-known-v-2 Inv-loop μ-loop
-enum-known-v-2 c = ?
+enum-known-v-2 c = search needs
 
--- src/saturation.rt:83:41
 returns-2 : tie.Need-returns-2 Inv-loop μ-loop
-returns-2 c = ?
+returns-2 c = refused _ _ _ _ _ _ (c .before .before .before .before .before .before .before .loop .inv) (c .before .before .before .before .before .before .loop-test .taken) _ _ _ (c .before .before .before .before .before .middle .ensures) (c .before .before .before .verdict-at .ensures) (c .before .before .before .before .counted .ensures) _ (c .before .v2 .given .1)
 
--- src/saturation.rt:84:28
 enum-known-v-3 : tie.Need-enum-known-v-3 Inv-loop μ-loop
-enum-known-v-3 c = ?
+enum-known-v-3 c = search needs
 
--- src/saturation.rt:85:20
 on-end-requires : tie.Need-on-end-requires Inv-loop μ-loop
-on-end-requires c κs = ?
+on-end-requires c κs = search needs
 
--- src/saturation.rt:86:21
 returns-3 : tie.Need-returns-3 Inv-loop μ-loop
-returns-3 c = ?
+returns-3 c = ended _ _ _ _ _ _ (c .before .before .before .before .before .before .before .before .before .loop .inv) (c .before .before .before .before .before .before .before .before .loop-test .taken) _ _ _ (c .before .before .before .before .before .before .before .middle .ensures) (c .before .before .before .before .before .verdict-at .ensures) (c .before .before .before .before .before .before .counted .ensures) _ (c .before .before .before .v3 .given .1) (sym (c .before .on-end .ensures) ∙ c .if1 .taken)
 
--- src/saturation.rt:91:17
 narrowed-requires : tie.Need-narrowed-requires Inv-loop μ-loop
-narrowed-requires c κs = ?
+narrowed-requires c κs = search needs
 
--- src/saturation.rt:65:5
 loop-less : tie.Need-loop-less Inv-loop μ-loop
-loop-less c = ?
+loop-less c = omega (arith, c .before .before .before .before .before .before .before .before .before .loop-test .taken)
 
--- src/saturation.rt:65:5
 loop-again : tie.Need-loop-again Inv-loop μ-loop
-loop-again c = ?
+loop-again c = again _ _ _ _ _ _ (c .before .before .before .before .before .before .before .before .before .before .loop .inv) (c .before .before .before .before .before .before .before .before .before .loop-test .taken) _ _ _ (c .before .before .before .before .before .before .before .before .middle .ensures) (c .before .before .before .before .before .before .verdict-at .ensures) (c .before .before .before .before .before .before .before .counted .ensures) _ _ (c .before .before .before .before .v3 .given .1) (sym (c .before .before .on-end .ensures) ∙ c .before .if1 .left) (c .narrowed .ensures)
 
--- src/saturation.rt:48:1
 returns-4 : tie.Need-returns-4 Inv-loop μ-loop
-returns-4 c = ?
+returns-4 c = done _ _ _ _ _ _ (c .before .loop .inv) (c .loop-test .left)
 
 pub halvings-spec : {M : Type 1} → statement M
 halvings-spec =
