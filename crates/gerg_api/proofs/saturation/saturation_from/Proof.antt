@@ -13,7 +13,7 @@ normal-range-requires : tie.Need-normal-range-requires
 normal-range-requires c κs = search needs
 
 pure-saturation-requires : tie.Need-pure-saturation-requires
-pure-saturation-requires c κs = c .before .before .before .before .before .before .before .before .pre (c .before .before .before .enum-told .given .1)
+pure-saturation-requires c κs = c .before .before .before .before .before .before .before .pre (c .before .before .enum-told .given .1)
 
 enum-known-refusal : tie.Need-enum-known-refusal
 enum-known-refusal c = search needs
@@ -21,8 +21,8 @@ enum-known-refusal c = search needs
 returns : tie.Need-returns
 unfolding saturationFrom
 returns c =
-    let e = c .before .before .before .before .enum-told .given .1 in
-    (rw (c .before .before .normal-range .ensures) at (c .pure-saturation .ensures)) ∙ sym (saturation-nothing _ _ e)
+    let e = c .before .before .before .enum-told .given .1 in
+    (rw (c .before .normal-range .ensures) at (c .pure-saturation .ensures)) ∙ sym (saturation-nothing _ _ e)
 
 returns-2 : tie.Need-returns-2
 unfolding saturationFrom saturationAfter
