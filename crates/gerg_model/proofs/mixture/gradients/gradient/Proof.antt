@@ -1,11 +1,11 @@
--- `gerg_model::mixture::gradient` meets its contract. The invariant: what the first i rows of pairs left. Assumes nothing.
+-- `gerg_model::mixture::gradients::gradient` meets its contract. The invariant: what the first i rows of pairs left. Assumes nothing.
 use mathlib.Core.Path.{_≡_}
 use Prim.Native.Nat.{_≤_, _-_}
 use Rattle.numerics.specs.Iterate.{iter, iter-begins, iter-turn, iter-done}
 use Rattle.gerg_model.specs.Mixture.{gradientRow, gradientOf}
 use native.Mathlib.Omega.{arith}
-use Rattle.gerg_model.proofs.mixture.gradient.Statement.{statement}
-use Rattle.gerg_model.proofs.mixture.gradient.Tie as tie
+use Rattle.gerg_model.proofs.mixture.gradients.gradient.Statement.{statement}
+use Rattle.gerg_model.proofs.mixture.gradients.gradient.Tie as tie
 
 abbrev Inv-loop : tie.InvT-loop
 Inv-loop doubles x row h₀ i₀ h i = (i ≤ 21) × (h ≡ iter (gradientRow doubles x row) i h₀)

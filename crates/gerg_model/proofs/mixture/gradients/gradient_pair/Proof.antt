@@ -1,8 +1,8 @@
--- `gerg_model::mixture::gradient_pair` meets its contract: each way rewrites the tests on the two fractions. Assumes nothing.
+-- `gerg_model::mixture::gradients::gradient_pair` meets its contract: each way rewrites the tests on the two fractions. Assumes nothing.
 use Rattle.gerg_model.specs.Mixture.{gradientPair}
 use borrow.Author.Needs.{needs}
-use Rattle.gerg_model.proofs.mixture.gradient_pair.Statement.{statement}
-use Rattle.gerg_model.proofs.mixture.gradient_pair.Tie as tie
+use Rattle.gerg_model.proofs.mixture.gradients.gradient_pair.Statement.{statement}
+use Rattle.gerg_model.proofs.mixture.gradients.gradient_pair.Tie as tie
 
 mul-xi : tie.Need-mul-xi
 mul-xi c = search needs

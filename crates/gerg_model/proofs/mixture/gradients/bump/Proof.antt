@@ -1,9 +1,9 @@
--- `gerg_model::mixture::bump` meets its contract: with `bumped` open the two sides are one term. Assumes nothing.
+-- `gerg_model::mixture::gradients::bump` meets its contract: with `bumped` open the two sides are one term. Assumes nothing.
 use mathlib.Core.Path.{refl}
 use Rattle.gerg_model.specs.Mixture.{bumped}
 use borrow.Author.Needs.{needs}
-use Rattle.gerg_model.proofs.mixture.bump.Statement.{statement}
-use Rattle.gerg_model.proofs.mixture.bump.Tie as tie
+use Rattle.gerg_model.proofs.mixture.gradients.bump.Statement.{statement}
+use Rattle.gerg_model.proofs.mixture.gradients.bump.Tie as tie
 
 mul-h : tie.Need-mul-h
 mul-h c = search needs

@@ -1,8 +1,8 @@
--- `gerg_model::mixture::gradients` meets its contract. Assumes nothing.
+-- `gerg_model::mixture::gradients::gradients` meets its contract. Assumes nothing.
 use Rattle.gerg_model.specs.Mixture.{gradientsOf}
 use borrow.Author.Needs.{needs}
-use Rattle.gerg_model.proofs.mixture.gradients.Statement.{statement}
-use Rattle.gerg_model.proofs.mixture.gradients.Tie as tie
+use Rattle.gerg_model.proofs.mixture.gradients.gradients.Statement.{statement}
+use Rattle.gerg_model.proofs.mixture.gradients.gradients.Tie as tie
 
 gradient-requires : tie.Need-gradient-requires
 gradient-requires c κs = search needs

@@ -1,11 +1,11 @@
--- `gerg_model::mixture::gradient_row` meets its contract. The invariant: what the pairs from i up to j left. Assumes nothing.
+-- `gerg_model::mixture::gradients::gradient_row` meets its contract. The invariant: what the pairs from i up to j left. Assumes nothing.
 use mathlib.Core.Path.{_≡_}
 use Prim.Native.Nat.{_≤_, _-_}
 use Rattle.numerics.specs.Iterate.{range, range-begins, range-turn, range-done}
 use Rattle.gerg_model.specs.Mixture.{gradientPair, gradientRow}
 use native.Mathlib.Omega.{arith}
-use Rattle.gerg_model.proofs.mixture.gradient_row.Statement.{statement}
-use Rattle.gerg_model.proofs.mixture.gradient_row.Tie as tie
+use Rattle.gerg_model.proofs.mixture.gradients.gradient_row.Statement.{statement}
+use Rattle.gerg_model.proofs.mixture.gradients.gradient_row.Tie as tie
 
 abbrev Inv-loop : tie.InvT-loop
 Inv-loop doubles x row i h₀ j₀ h j = (i ≤ j) × (j ≤ 21) × (h ≡ range (gradientPair doubles x row i) i j h₀)
