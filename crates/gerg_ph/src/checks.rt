@@ -1,9 +1,9 @@
 // Row 25: one positive fraction, and ends that rise.
 
 use crate::Positive;
-use gerg_density::checks;
 use gerg_model::GergModel;
 use gerg_model::mixture;
+use gerg_model::mixture::is_finite;
 ghost use mathlib.Core.Path.{_≡_};
 ghost use Prim.Native.Nat.{_+_, _^_, _<_};
 ghost use lib.Ieee.{lt};
@@ -47,5 +47,5 @@ pub fn positive(model: GergModel) -> Positive
 pub fn refused(n: usize, lo: f64, hi: f64) -> bool
     ensures { λ r. ⌜ r ≡ refusedBy n lo hi ⌝ }
 {
-    !(n == 1) | !checks::is_finite(lo) | !checks::is_finite(hi) | !(lo < hi)
+    !(n == 1) | !is_finite(lo) | !is_finite(hi) | !(lo < hi)
 }
