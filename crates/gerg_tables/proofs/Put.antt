@@ -1,6 +1,6 @@
 -- Lists stored into an array one after the other.
 use mathlib.Core.Path.{_≡_, refl, sym, ap, _∙_}
-use mathlib.Core.Bool.{Bool, cond}
+use mathlib.Core.Bool.{Bool, true, cond}
 use mathlib.Core.List.{List, [], _∷_, _++_}
 use Prim.Native.Nat.{ℕ, zero, suc, _+_, _*_, _≤_, _<_}
 use native.Mathlib.Numerals.{add-one}
@@ -54,6 +54,17 @@ tabulate-on : {A : Type 0} (f : ℕ → A) (n : ℕ) (l : List A) (to : ℕ) {o 
 unfolding tabulate
 tabulate-on f n l to {o} i e =
     rw (add-one n) (sets-on (tabulate f n) (f n ∷ []) l to n (length-tabulate f n) i (ap (λ (v : _). set o (to + n) v) e))
+
+-- doubles that stand in the file from `at` on, one by one
+module _ (s : List ℕ) (at to : ℕ) where
+  pub no-copies : (l : List Float) → l ≡ sets l to (recordDoubles true s at 0)
+  unfolding recordDoubles tabulate
+  no-copies l = refl
+
+  pub copy-on : (k : ℕ) (l : List Float) {o : List Float} {v : Float} → o ≡ sets l to (recordDoubles true s at k) → v ≡ doubleAt s (at + 8 * k)
+      → set o (to + k) v ≡ sets l to (recordDoubles true s at (k + 1))
+  unfolding recordDoubles
+  copy-on k l i e = tabulate-on (λ k. cond true (doubleAt s (at + 8 * k)) +0) k l to i e
 
 -- numbers of one record, one by one
 module _ (there : Bool) (s : List ℕ) (base offset to : ℕ) where

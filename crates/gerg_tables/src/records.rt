@@ -1,7 +1,8 @@
 // Numbers of a row of records, stored into the arrays of the tables. A record that the file has not stores zeros.
 ghost use mathlib.Core.Path.{_≡_};
-ghost use mathlib.Core.Bool.{cond};
+ghost use mathlib.Core.Bool.{cond, true, false};
 ghost use Prim.Native.Nat.{_+_, _*_, _^_, _≤_, _<_};
+ghost use lib.ListN.{length};
 ghost use lib.Seq.{sets};
 ghost use Rattle.numerics.specs.Double.{+0};
 ghost use Rattle.gerg_tables.specs.Bytes.{byte, doubleAt};
@@ -9,8 +10,10 @@ ghost use Rattle.gerg_tables.specs.Load.{present, recordDoubles, recordB
 use crate::Tables;
 use crate::bytes::byte_at;
 use crate::bytes::double_at;
+use crate::bytes::double_inside;
 use crate::bytes::term_count;
 use crate::file::Layout;
+use crate::file::holds;
 
 // Records of one size in a row, of which `before` stand before record 0 in their section, which begins at `base`. The file has those from `first` to `end` - 1.
 pub struct Records {
@@ -53,8 +56,20 @@ fn byte_or_zero(there: bool, s: &[u8], base: usize, offset: usize) -> u8
     0
 }
 
-// n doubles in a row, stored from `to` on.
-fn put_doubles(
+// n doubles that stand in the file in a row, stored from `to` on.
+fn copy_doubles(s: &[u8], at: usize, n: usize, to: usize, out: &mut [f64; 4086])
+    requires { ⌜ (at + 8 * n ≤ length (now s)) × (to + n ≤ 4086) ⌝ }
+    ensures { λ _. ⌜ now (out .exit) ≡ sets (now (out .entry)) to (recordDoubles true (now (s .entry)) at n) ⌝ }
+{
+    let mut k: usize = 0;
+    while k < n {
+        out[to + k] = double_inside(s, at + 8 * k);
+        k += 1;
+    }
+}
+
+// The same where they may be absent, or stand past the end of the file.
+fn copy_doubles_or_zeros(
     there: bool,
     s: &[u8],
     base: usize,
@@ -71,6 +86,28 @@ fn put_doubles(
         out[to + k] = double_or_zero(there, s, base, offset + 8 * k);
         k += 1;
     }
+}
+
+// n doubles in a row, stored from `to` on.
+fn put_doubles(
+    there: bool,
+    s: &[u8],
+    base: usize,
+    offset: usize,
+    n: usize,
+    to: usize,
+    out: &mut [f64; 4086],
+)
+    requires { ⌜ (offset < 2 ^ 31) × (to + n ≤ 4086) ⌝ }
+    ensures { λ _. ⌜ now (out .exit) ≡ sets (now (out .entry)) to (recordDoubles there (now (s .entry)) (base + offset) n) ⌝ }
+{
+    if there {
+        if holds(s, base, offset + 8 * n) {
+            copy_doubles(s, base + offset, n, to, out);
+            return;
+        }
+    }
+    copy_doubles_or_zeros(there, s, base, offset, n, to, out);
 }
 
 // n bytes in a row, stored from `to` on.
