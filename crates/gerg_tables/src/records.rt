@@ -2,7 +2,7 @@
 ghost use mathlib.Core.Path.{_≡_};
 ghost use mathlib.Core.Bool.{cond, true, false};
 ghost use Prim.Native.Nat.{_+_, _*_, _^_, _≤_, _<_};
-ghost use lib.ListN.{length};
+ghost use lib.ListN.{length, replicate};
 ghost use lib.Seq.{sets};
 ghost use Rattle.numerics.specs.Double.{+0};
 ghost use Rattle.gerg_tables.specs.Bytes.{byte, doubleAt};
@@ -130,8 +130,8 @@ fn put_bytes(
     }
 }
 
-// `per` doubles of each of the records 0 to count - 1, `offset` bytes into it, stored from `to` on.
-pub fn put_record_doubles(
+// `per` doubles of each of the records 0 to count - 1, `offset` bytes into it, stored from `to` on. Each record is looked for in the file.
+fn put_any_doubles(
     s: &[u8],
     r: Records,
     offset: usize,
@@ -157,6 +157,144 @@ pub fn put_record_doubles(
         );
         k += 1;
     }
+}
+
+// Two doubles that stand in the file, stored from `to` on.
+fn copy_two(s: &[u8], at: usize, to: usize, out: &mut [f64; 4086])
+    requires { ⌜ (at + 16 ≤ length (now s)) × (to + 2 ≤ 4086) ⌝ }
+    ensures { λ _. ⌜ now (out .exit) ≡ sets (now (out .entry)) to (recordDoubles true (now (s .entry)) at 2) ⌝ }
+{
+    out[to] = double_inside(s, at);
+    out[to + 1] = double_inside(s, at + 8);
+}
+
+// Two zeros.
+fn zero_two(to: usize, out: &mut [f64; 4086])
+    requires { ⌜ to + 2 ≤ 4086 ⌝ }
+    ensures { λ _. ⌜ now (out .exit) ≡ sets (now (out .entry)) to (replicate 2 +0) ⌝ }
+{
+    out[to] = 0.0;
+    out[to + 1] = 0.0;
+}
+
+fn put_two(there: bool, s: &[u8], at: usize, to: usize, out: &mut [f64; 4086])
+    requires { ⌜ (at + 16 ≤ length (now s)) × (to + 2 ≤ 4086) ⌝ }
+    ensures { λ _. ⌜ now (out .exit) ≡ sets (now (out .entry)) to (recordDoubles there (now (s .entry)) at 2) ⌝ }
+{
+    if there {
+        copy_two(s, at, to, out);
+    } else {
+        zero_two(to, out);
+    }
+}
+
+// `put_record_doubles` for two doubles of each term of a component, where the file has room for all the records.
+fn put_two_of_each(
+    s: &[u8],
+    r: Records,
+    offset: usize,
+    count: usize,
+    to: usize,
+    out: &mut [f64; 4086],
+)
+    requires { ⌜ (r .size ≡ 21) × ((r .before < 2 ^ 16) × ((offset < 2 ^ 8) × ((count < 2 ^ 8) × ((to + 2 * count ≤ 4086) × (r .base + (offset + 21 * (r .before + count)) ≤ length (now s)))))) ⌝ }
+    ensures { λ _. ⌜ now (out .exit) ≡ sets (now (out .entry)) to (doublesOf (now (s .entry)) r offset count 2) ⌝ }
+{
+    let first = r.base + 21 * r.before + offset;
+    let mut k: usize = 0;
+    while k < count {
+        let there = r.present(k);
+        put_two(there, s, first + 21 * k, to + 2 * k, out);
+        k += 1;
+    }
+}
+
+// Five doubles that stand in the file, stored from `to` on.
+fn copy_five(s: &[u8], at: usize, to: usize, out: &mut [f64; 4086])
+    requires { ⌜ (at + 40 ≤ length (now s)) × (to + 5 ≤ 4086) ⌝ }
+    ensures { λ _. ⌜ now (out .exit) ≡ sets (now (out .entry)) to (recordDoubles true (now (s .entry)) at 5) ⌝ }
+{
+    out[to] = double_inside(s, at);
+    out[to + 1] = double_inside(s, at + 8);
+    out[to + 2] = double_inside(s, at + 16);
+    out[to + 3] = double_inside(s, at + 24);
+    out[to + 4] = double_inside(s, at + 32);
+}
+
+// Five zeros.
+fn zero_five(to: usize, out: &mut [f64; 4086])
+    requires { ⌜ to + 5 ≤ 4086 ⌝ }
+    ensures { λ _. ⌜ now (out .exit) ≡ sets (now (out .entry)) to (replicate 5 +0) ⌝ }
+{
+    out[to] = 0.0;
+    out[to + 1] = 0.0;
+    out[to + 2] = 0.0;
+    out[to + 3] = 0.0;
+    out[to + 4] = 0.0;
+}
+
+fn put_five(there: bool, s: &[u8], at: usize, to: usize, out: &mut [f64; 4086])
+    requires { ⌜ (at + 40 ≤ length (now s)) × (to + 5 ≤ 4086) ⌝ }
+    ensures { λ _. ⌜ now (out .exit) ≡ sets (now (out .entry)) to (recordDoubles there (now (s .entry)) at 5) ⌝ }
+{
+    if there {
+        copy_five(s, at, to, out);
+    } else {
+        zero_five(to, out);
+    }
+}
+
+// `put_record_doubles` for five doubles of each pair or term of a departure function, where the file has room for all the records.
+fn put_five_of_each(
+    s: &[u8],
+    r: Records,
+    offset: usize,
+    count: usize,
+    to: usize,
+    out: &mut [f64; 4086],
+)
+    requires { ⌜ (r .size ≡ 44) × ((r .before < 2 ^ 16) × ((offset < 2 ^ 8) × ((count < 2 ^ 8) × ((to + 5 * count ≤ 4086) × (r .base + (offset + 44 * (r .before + count)) ≤ length (now s)))))) ⌝ }
+    ensures { λ _. ⌜ now (out .exit) ≡ sets (now (out .entry)) to (doublesOf (now (s .entry)) r offset count 5) ⌝ }
+{
+    let first = r.base + 44 * r.before + offset;
+    let mut k: usize = 0;
+    while k < count {
+        let there = r.present(k);
+        put_five(there, s, first + 44 * k, to + 5 * k, out);
+        k += 1;
+    }
+}
+
+// `per` doubles of each of the records 0 to count - 1, `offset` bytes into it, stored from `to` on.
+pub fn put_record_doubles(
+    s: &[u8],
+    r: Records,
+    offset: usize,
+    count: usize,
+    per: usize,
+    to: usize,
+    out: &mut [f64; 4086],
+)
+    requires { ⌜ (r .size < 2 ^ 8) × ((r .before < 2 ^ 16) × ((offset < 2 ^ 8) × ((count < 2 ^ 8) × (to + per * count ≤ 4086)))) ⌝ }
+    ensures { λ _. ⌜ now (out .exit) ≡ sets (now (out .entry)) to (doublesOf (now (s .entry)) r offset count per) ⌝ }
+{
+    if per == 2 {
+        if r.size == 21 {
+            if holds(s, r.base, offset + 21 * (r.before + count)) {
+                put_two_of_each(s, r, offset, count, to, out);
+                return;
+            }
+        }
+    }
+    if per == 5 {
+        if r.size == 44 {
+            if holds(s, r.base, offset + 44 * (r.before + count)) {
+                put_five_of_each(s, r, offset, count, to, out);
+                return;
+            }
+        }
+    }
+    put_any_doubles(s, r, offset, count, per, to, out);
 }
 
 // `per` bytes of each of the records 0 to count - 1, `offset` bytes into it, stored from `to` on.
