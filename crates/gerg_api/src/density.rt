@@ -57,12 +57,13 @@ pub fn density(
 ) -> DensityAnswer
     ensures { λ r. ⌜ r ≡ is.densityCall (now (file .entry)) (now (list .entry)) (now (fractions .entry)) t target (optionsOf lo hi limit tolerance) ⌝ }
 {
-    let read = gerg_tables::read_tables(file);
-    let answer = read.answer;
-    let mixed = rows::mixed(&read.tables.doubles, answer, list, fractions);
+    let mut doubles = [0.0; 4086];
+    let mut integers = [0u8; 1631];
+    let answer = gerg_tables::read_tables_into(file, &mut doubles, &mut integers);
+    let mixed = rows::mixed(&doubles, answer, list, fractions);
     density_from(
-        &read.tables.doubles,
-        &read.tables.integers,
+        &doubles,
+        &integers,
         mixed,
         t,
         target,

@@ -106,15 +106,9 @@ pub fn fugacity(
     ensures answer { λ r. ⌜ r ≡ is.fugacityAnswer (now (file .entry)) (now (list .entry)) (now (fractions .entry)) t rho (now (out .entry)) ⌝ }
     ensures memory { λ r. ⌜ now (out .exit) ≡ is.fugacityWritten (now (file .entry)) (now (list .entry)) (now (fractions .entry)) t rho (now (out .entry)) ⌝ }
 {
-    let read = gerg_tables::read_tables(file);
-    let answer = read.answer;
-    let mixed = rows::mixed(&read.tables.doubles, answer, list, fractions);
-    fugacity_from(
-        &read.tables.doubles,
-        &read.tables.integers,
-        mixed,
-        t,
-        rho,
-        out,
-    )
+    let mut doubles = [0.0; 4086];
+    let mut integers = [0u8; 1631];
+    let answer = gerg_tables::read_tables_into(file, &mut doubles, &mut integers);
+    let mixed = rows::mixed(&doubles, answer, list, fractions);
+    fugacity_from(&doubles, &integers, mixed, t, rho, out)
 }

@@ -56,8 +56,9 @@ fn properties_from<'a>(
 pub fn properties(file: &[u8], list: &[u8], fractions: &[f64], t: f64, rho: f64) -> PropertiesAnswer
     ensures { λ r. ⌜ r ≡ is.propertiesOf (now (file .entry)) (now (list .entry)) (now (fractions .entry)) t rho ⌝ }
 {
-    let read = gerg_tables::read_tables(file);
-    let answer = read.answer;
-    let mixed = rows::mixed(&read.tables.doubles, answer, list, fractions);
-    properties_from(&read.tables.doubles, &read.tables.integers, mixed, t, rho)
+    let mut doubles = [0.0; 4086];
+    let mut integers = [0u8; 1631];
+    let answer = gerg_tables::read_tables_into(file, &mut doubles, &mut integers);
+    let mixed = rows::mixed(&doubles, answer, list, fractions);
+    properties_from(&doubles, &integers, mixed, t, rho)
 }

@@ -56,15 +56,9 @@ pub fn outer_roots(
     ensures answer { λ r. ⌜ r ≡ is.rootsCall (now (file .entry)) (now (list .entry)) (now (fractions .entry)) t target (now (out .entry)) ⌝ }
     ensures memory { λ r. ⌜ now (out .exit) ≡ is.rootsWritten (now (file .entry)) (now (list .entry)) (now (fractions .entry)) t target (now (out .entry)) ⌝ }
 {
-    let read = gerg_tables::read_tables(file);
-    let answer = read.answer;
-    let mixed = rows::mixed(&read.tables.doubles, answer, list, fractions);
-    roots_from(
-        &read.tables.doubles,
-        &read.tables.integers,
-        mixed,
-        t,
-        target,
-        out,
-    )
+    let mut doubles = [0.0; 4086];
+    let mut integers = [0u8; 1631];
+    let answer = gerg_tables::read_tables_into(file, &mut doubles, &mut integers);
+    let mixed = rows::mixed(&doubles, answer, list, fractions);
+    roots_from(&doubles, &integers, mixed, t, target, out)
 }

@@ -1,12 +1,12 @@
 -- Lists stored into an array one after the other.
 use mathlib.Core.Path.{_≡_, refl, sym, ap, _∙_}
-use mathlib.Core.Bool.{Bool, cond}
+use mathlib.Core.Bool.{Bool, true, false, cond}
 use mathlib.Core.List.{List, [], _∷_, _++_}
 use Prim.Native.Nat.{ℕ, zero, suc, _+_, _*_, _≤_, _<_}
 use native.Mathlib.Numerals.{add-one}
-use native.Mathlib.Nat.{mul-suc, mul-zero, mul-le-mul, mul-le-mul-left}
+use native.Mathlib.Nat.{mul-add, mul-suc, mul-zero, mul-le-mul, mul-le-mul-left}
 use native.Mathlib.Omega.{arith}
-use lib.ListN.{length, set, length-append}
+use lib.ListN.{length, set, replicate, length-append}
 use lib.Seq.{sets}
 use lib.Ieee.{Float}
 use Rattle.numerics.specs.Double.{+0}
@@ -54,6 +54,65 @@ tabulate-on : {A : Type 0} (f : ℕ → A) (n : ℕ) (l : List A) (to : ℕ) {o 
 unfolding tabulate
 tabulate-on f n l to {o} i e =
     rw (add-one n) (sets-on (tabulate f n) (f n ∷ []) l to n (length-tabulate f n) i (ap (λ (v : _). set o (to + n) v) e))
+
+-- two and five values, stored one by one
+module _ {A : Type 0} (f : ℕ → A) (l : List A) (to : ℕ) where
+  filled-none : l ≡ sets l to (tabulate f 0)
+  unfolding tabulate
+  filled-none = refl
+
+  filled-one : {a : A} → a ≡ f 0 → set l to a ≡ sets l to (tabulate f 1)
+  filled-one {a} e = let t : to + 0 ≡ to = omega arith in ap (λ (k : ℕ). set l k a) (sym t) ∙ tabulate-on f 0 l to filled-none e
+
+  pub filled-two : {a b : A} → a ≡ f 0 → b ≡ f 1 → set (set l to a) (to + 1) b ≡ sets l to (tabulate f 2)
+  filled-two e₀ e₁ = tabulate-on f 1 l to (filled-one e₀) e₁
+
+  pub filled-five : {a b c d e : A} → a ≡ f 0 → b ≡ f 1 → c ≡ f 2 → d ≡ f 3 → e ≡ f 4
+      → set (set (set (set (set l to a) (to + 1) b) (to + 2) c) (to + 3) d) (to + 4) e ≡ sets l to (tabulate f 5)
+  filled-five e₀ e₁ e₂ e₃ e₄ =
+      tabulate-on f 4 l to (tabulate-on f 3 l to (tabulate-on f 2 l to (filled-two e₀ e₁) e₂) e₃) e₄
+
+pub zero-two : (l : List Float) (to : ℕ) → set (set l to +0) (to + 1) +0 ≡ sets l to (replicate 2 +0)
+unfolding tabulate
+zero-two l to = filled-two (λ k. +0) l to refl refl
+
+pub zero-five : (l : List Float) (to : ℕ) → set (set (set (set (set l to +0) (to + 1) +0) (to + 2) +0) (to + 3) +0) (to + 4) +0 ≡ sets l to (replicate 5 +0)
+unfolding tabulate
+zero-five l to = filled-five (λ k. +0) l to refl refl refl refl refl
+
+pub absent-two : (s : List ℕ) (at : ℕ) → replicate 2 +0 ≡ recordDoubles false s at 2
+unfolding recordDoubles tabulate
+absent-two s at = refl
+
+pub absent-five : (s : List ℕ) (at : ℕ) → replicate 5 +0 ≡ recordDoubles false s at 5
+unfolding recordDoubles tabulate
+absent-five s at = refl
+
+pub copied-two : (s : List ℕ) (at to : ℕ) (l : List Float) {a b : Float} → a ≡ doubleAt s at → b ≡ doubleAt s (at + 8)
+    → set (set l to a) (to + 1) b ≡ sets l to (recordDoubles true s at 2)
+unfolding recordDoubles
+copied-two s at to l e₀ e₁ =
+    let z : at ≡ at + 8 * 0 = omega arith in
+    filled-two (λ k. cond true (doubleAt s (at + 8 * k)) +0) l to (e₀ ∙ ap (doubleAt s) z) e₁
+
+pub copied-five : (s : List ℕ) (at to : ℕ) (l : List Float) {a b c d e : Float} → a ≡ doubleAt s at → b ≡ doubleAt s (at + 8) → c ≡ doubleAt s (at + 16)
+    → d ≡ doubleAt s (at + 24) → e ≡ doubleAt s (at + 32)
+    → set (set (set (set (set l to a) (to + 1) b) (to + 2) c) (to + 3) d) (to + 4) e ≡ sets l to (recordDoubles true s at 5)
+unfolding recordDoubles
+copied-five s at to l e₀ e₁ e₂ e₃ e₄ =
+    let z : at ≡ at + 8 * 0 = omega arith in
+    filled-five (λ k. cond true (doubleAt s (at + 8 * k)) +0) l to (e₀ ∙ ap (doubleAt s) z) e₁ e₂ e₃ e₄
+
+-- doubles that stand in the file from `at` on, one by one
+module _ (s : List ℕ) (at to : ℕ) where
+  pub no-copies : (l : List Float) → l ≡ sets l to (recordDoubles true s at 0)
+  unfolding recordDoubles tabulate
+  no-copies l = refl
+
+  pub copy-on : (k : ℕ) (l : List Float) {o : List Float} {v : Float} → o ≡ sets l to (recordDoubles true s at k) → v ≡ doubleAt s (at + 8 * k)
+      → set o (to + k) v ≡ sets l to (recordDoubles true s at (k + 1))
+  unfolding recordDoubles
+  copy-on k l i e = tabulate-on (λ k. cond true (doubleAt s (at + 8 * k)) +0) k l to i e
 
 -- numbers of one record, one by one
 module _ (there : Bool) (s : List ℕ) (base offset to : ℕ) where
@@ -103,6 +162,14 @@ module _ (s : List ℕ) (r : Records) (offset per to : ℕ) where
   record-on k l {o = o} i e t =
       flat-on (λ k. recordDoubles (present r k) s (place r offset k) per) per length-record k l to i
       (t ∙ ap (λ (b : Bool). sets o (to + per * k) (recordDoubles b s (place r offset k) per)) e)
+
+  -- the same for records of n bytes whose numbers begin with those of record 0
+  pub record-at : (n k : ℕ) (l : List Float) {b : Bool} {o o′ : List Float} → r .size ≡ n → o ≡ sets l to (doublesOf s r offset k per) → b ≡ present r k
+      → o′ ≡ sets o (to + per * k) (recordDoubles b s (r .base + n * r .before + offset + n * k) per) → o′ ≡ sets l to (doublesOf s r offset (k + 1) per)
+  record-at n k l {b = b} {o = o} z i e t =
+      let q : r .base + n * r .before + offset + n * k ≡ r .base + (offset + n * (r .before + k)) = omega (arith, mul-add n (r .before) k) in
+      record-on k l i e
+      (t ∙ ap (λ (p : ℕ). sets o (to + per * k) (recordDoubles b s p per)) (q ∙ ap (λ (m : ℕ). r .base + (offset + m * (r .before + k))) (sym z)))
 
   pub byte-record-on : (k : ℕ) (l : List ℕ) {b : Bool} {o o′ : List ℕ} → o ≡ sets l to (bytesOf s r offset k per) → b ≡ present r k
       → o′ ≡ sets o (to + per * k) (recordBytes b s (place r offset k) per) → o′ ≡ sets l to (bytesOf s r offset (k + 1) per)

@@ -123,3 +123,9 @@ module _ (s : List ℕ) (l : Layout) where
         whole (replicate 4086 +0) (doubles s l) (length-doubles ∙ sym (length-replicate 4086 +0)),
         whole (replicate 1631 0) (integers s l) (length-integers ∙ sym (length-replicate {A = ℕ} 1631 0)),
       )
+
+  -- the same for lent arrays that held zeros
+  pub stored-is : {d₀ d : List Float} {n₀ n : List ℕ} → d₀ ≡ replicate 4086 +0 → n₀ ≡ replicate 1631 0 → d ≡ sets d₀ 0 (doubles s l)
+      → n ≡ sets n₀ 0 (integers s l) → _≡_ {A = Tables} (record { doubles = d; integers = n }) (loaded s l)
+  stored-is zd zn e g =
+      loaded-is (e ∙ ap (λ (d : List Float). sets d 0 (doubles s l)) zd) (g ∙ ap (λ (n : List ℕ). sets n 0 (integers s l)) zn)

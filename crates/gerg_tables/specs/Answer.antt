@@ -1,6 +1,7 @@
 -- What a coefficient file is answered with, by rows 1 and 2, and its tables.
 use mathlib.Core.List.{List}
 use Prim.Native.Nat.{ℕ, zero, suc}
+use lib.Ieee.{Float}
 use Rattle.gerg_tables.specs.declared.Answer.{Answer}
 use Rattle.gerg_tables.specs.declared.Answer.the-variants.{Accepted, Refused, Faulty}
 use Rattle.gerg_tables.specs.declared.TableFile.{TableFile}
@@ -45,3 +46,7 @@ tablesOf s = tablesAs s (fileOf s)
 
 unfoldable pub tableFileOf : List ℕ → TableFile
 tableFileOf s = record { answer = answerOf s; tables = tablesOf s }
+
+-- an answer beside the tables of two lent arrays
+abbrev pub tableFile : Answer → List Float → List ℕ → TableFile
+tableFile answer doubles integers = record { answer = answer; tables = record { doubles = doubles; integers = integers } }

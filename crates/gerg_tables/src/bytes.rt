@@ -42,6 +42,30 @@ fn word_here(s: &[u8], at: usize) -> u64
     (low + 4294967296 * high) as u64
 }
 
+// A byte of the file.
+fn byte_inside(s: &[u8], at: usize) -> usize
+    requires { ⌜ at < length (now s) ⌝ }
+    ensures { λ r. ⌜ (r ≡ byte (now (s .entry)) at) × (r < 256) ⌝ }
+{
+    wide(s[at])
+}
+
+// The 8 bytes at a place where the file has all of them: without a test for each of them this is one load.
+fn word_inside(s: &[u8], at: usize) -> u64
+    requires { ⌜ at + 8 ≤ length (now s) ⌝ }
+    ensures { λ r. ⌜ r ≡ word (now (s .entry)) at ⌝ }
+{
+    let low = byte_inside(s, at)
+        + 256
+            * (byte_inside(s, at + 1)
+                + 256 * (byte_inside(s, at + 2) + 256 * byte_inside(s, at + 3)));
+    let high = byte_inside(s, at + 4)
+        + 256
+            * (byte_inside(s, at + 5)
+                + 256 * (byte_inside(s, at + 6) + 256 * byte_inside(s, at + 7)));
+    (low + 4294967296 * high) as u64
+}
+
 // The same, `offset` bytes past `base`.
 fn word_at(s: &[u8], base: usize, offset: usize) -> u64
     requires { ⌜ offset < 2 ^ 32 ⌝ }
@@ -69,4 +93,12 @@ pub fn double_at(s: &[u8], base: usize, offset: usize) -> f64
     ensures { λ r. ⌜ r ≡ doubleAt (now (s .entry)) (base + offset) ⌝ }
 {
     double_of(word_at(s, base, offset))
+}
+
+// The double of 8 bytes of the file.
+pub fn double_inside(s: &[u8], at: usize) -> f64
+    requires { ⌜ at + 8 ≤ length (now s) ⌝ }
+    ensures { λ r. ⌜ r ≡ doubleAt (now (s .entry)) at ⌝ }
+{
+    double_of(word_inside(s, at))
 }

@@ -16,7 +16,7 @@ pub enum Walk {
 }
 
 // Whether the file has `size` bytes from `at` on.
-fn holds(s: &[u8], at: usize, size: usize) -> bool
+pub fn holds(s: &[u8], at: usize, size: usize) -> bool
     ensures { λ r. ⌜ (r ≡ leb (at + size) (length (now (s .entry)))) × (r ≡ true → at + size ≤ length (now (s .entry))) ⌝ }
 {
     if at <= s.len() {

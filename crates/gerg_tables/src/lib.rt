@@ -1,6 +1,8 @@
 // The coefficient file and its tables.
 ghost use mathlib.Core.Path.{_≡_};
 ghost use mathlib.Core.List.{[], _∷_};
+ghost use lib.ListN.{replicate};
+ghost use Rattle.numerics.specs.Double.{+0};
 ghost use Rattle.gerg_tables.specs.Answer as Answers;
 
 mod bytes;
@@ -67,25 +69,30 @@ fn judge(fault: u8, length: usize) -> Answer
     Answer::Faulty(fault)
 }
 
-// The bytes of a coefficient file, checked and read.
+// The bytes of a coefficient file, checked and read into lent arrays of zeros, so that tables of 34 kB are not copied.
+pub fn read_tables_into(file: &[u8], doubles: &mut [f64; 4086], integers: &mut [u8; 1631]) -> Answer
+    requires { ⌜ (now doubles ≡ replicate 4086 +0) × (now integers ≡ replicate 1631 0) ⌝ }
+    ensures { λ r. ⌜ Answers.tableFile r (now (doubles .exit)) (now (integers .exit)) ≡ Answers.tableFileOf (now (file .entry)) ⌝ }
+{
+    match file::read_layout(file) {
+        file::File::Malformed(at) => Answer::Refused(at),
+        file::File::WellFormed(layout) => {
+            load::put_tables(file, layout, doubles, integers);
+            let fault = check::fault(doubles, integers, layout.count);
+            judge(fault, layout.length)
+        }
+    }
+}
+
+// The same with the tables in the answer.
 pub fn read_tables(file: &[u8]) -> TableFile
     ensures { λ r. ⌜ r ≡ Answers.tableFileOf (now (file .entry)) ⌝ }
 {
-    match file::read_layout(file) {
-        file::File::Malformed(at) => {
-            let doubles = [0.0; 4086];
-            let integers = [0u8; 1631];
-            let tables = Tables { doubles, integers };
-            let answer = Answer::Refused(at);
-            TableFile { answer, tables }
-        }
-        file::File::WellFormed(layout) => {
-            let tables = load::load(file, layout);
-            let fault = check::fault(&tables.doubles, &tables.integers, layout.count);
-            let answer = judge(fault, layout.length);
-            TableFile { answer, tables }
-        }
-    }
+    let mut doubles = [0.0; 4086];
+    let mut integers = [0u8; 1631];
+    let answer = read_tables_into(file, &mut doubles, &mut integers);
+    let tables = Tables { doubles, integers };
+    TableFile { answer, tables }
 }
 
 // The answer's number and value, for callers in C.
@@ -93,8 +100,9 @@ pub fn read_tables(file: &[u8]) -> TableFile
 pub extern "C" fn gerg_tables_check(file: &[u8], out: &mut [u64; 2])
     ensures { λ _. ⌜ now (out .exit) ≡ Answers.number (Answers.answerOf (now (file .entry))) ∷ Answers.value (Answers.answerOf (now (file .entry))) ∷ [] ⌝ }
 {
-    let read = read_tables(file);
-    let answer = read.answer;
+    let mut doubles = [0.0; 4086];
+    let mut integers = [0u8; 1631];
+    let answer = read_tables_into(file, &mut doubles, &mut integers);
     let number = answer.number();
     let value = answer.value();
     *out = [number, value];

@@ -3,8 +3,7 @@ ghost use mathlib.Core.Path.{_≡_};
 ghost use Prim.Native.Nat.{_+_, _*_, _^_, _≤_, _<_};
 ghost use lib.Seq.{sets};
 ghost use Rattle.gerg_tables.specs.Load as Load;
-ghost use Rattle.gerg_tables.specs.Load.{flat, doublesOf, bytesOf, loaded};
-use crate::Tables;
+ghost use Rattle.gerg_tables.specs.Load.{flat, doublesOf, bytesOf};
 use crate::bytes::term_count;
 use crate::file::Layout;
 use crate::records::Records;
@@ -162,7 +161,7 @@ fn put_departures(
 }
 
 // All numbers of an accepted file.
-fn put_tables(s: &[u8], l: Layout, doubles: &mut [f64; 4086], integers: &mut [u8; 1631])
+pub fn put_tables(s: &[u8], l: Layout, doubles: &mut [f64; 4086], integers: &mut [u8; 1631])
     ensures { λ _. ⌜ (now (doubles .exit) ≡ sets (now (doubles .entry)) 0 (Load.doubles (now (s .entry)) l)) × (now (integers .exit) ≡ sets (now (integers .entry)) 0 (Load.integers (now (s .entry)) l)) ⌝ }
 {
     put_components(s, doubles, integers);
@@ -177,13 +176,4 @@ fn put_tables(s: &[u8], l: Layout, doubles: &mut [f64; 4086], integers: &mut [u8
     };
     put_record_bytes(s, functions, 2, 10, 2, 1491, integers);
     put_departures(s, l.functions, l.count, l.departures, doubles, integers);
-}
-
-pub fn load(s: &[u8], l: Layout) -> Tables
-    ensures { λ r. ⌜ r ≡ loaded (now (s .entry)) l ⌝ }
-{
-    let mut doubles = [0.0; 4086];
-    let mut integers = [0u8; 1631];
-    put_tables(s, l, &mut doubles, &mut integers);
-    Tables { doubles, integers }
 }

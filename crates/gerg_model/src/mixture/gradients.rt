@@ -6,13 +6,11 @@ ghost use Prim.Native.Nat.{_<_};
 ghost use Rattle.gerg_model.specs.Mixture as mix;
 
 // v added to element i.
-fn bump(gradient: [f64; 21], i: usize, v: f64) -> [f64; 21]
+fn bump(gradient: &mut [f64; 21], i: usize, v: f64)
     requires { ⌜ i < 21 ⌝ }
-    ensures { λ r. ⌜ r ≡ mix.bumped i v gradient ⌝ }
+    ensures { λ _. ⌜ now (gradient .exit) ≡ mix.bumped i v (now (gradient .entry)) ⌝ }
 {
-    let mut h = gradient;
-    h[i] = h[i] + v;
-    h
+    gradient[i] = gradient[i] + v;
 }
 
 fn first_part(w: f64, b: f64, xi: f64, xj: f64) -> f64
@@ -38,26 +36,28 @@ fn gradient_pair(
     row: usize,
     i: usize,
     j: usize,
-    gradient: [f64; 21],
-) -> [f64; 21]
+    gradient: &mut [f64; 21],
+)
     requires { ⌜ (i < 21) × (j < 21) ⌝ }
-    ensures { λ r. ⌜ r ≡ mix.gradientPair (now (doubles .entry)) (now (x .entry)) row i j gradient ⌝ }
+    ensures { λ _. ⌜ now (gradient .exit) ≡ mix.gradientPair (now (doubles .entry)) (now (x .entry)) row i j (now (gradient .entry)) ⌝ }
 {
     let xi = x[i];
     let xj = x[j];
     if xi + xj == 0.0 {
-        return gradient;
+        return;
     }
     let b = b_of_pair(doubles, row, i, j);
     let w = weight_of_pair(doubles, row, i, j);
     if xj == 0.0 {
-        return bump(gradient, j, w * xi / b);
+        bump(gradient, j, w * xi / b);
+        return;
     }
     if xi == 0.0 {
-        return bump(gradient, i, w * xj);
+        bump(gradient, i, w * xj);
+        return;
     }
-    let one_added = bump(gradient, i, first_part(w, b, xi, xj));
-    bump(one_added, j, second_part(w, b, xi, xj))
+    bump(gradient, i, first_part(w, b, xi, xj));
+    bump(gradient, j, second_part(w, b, xi, xj));
 }
 
 fn gradient_row(
@@ -65,17 +65,14 @@ fn gradient_row(
     x: &[f64; 21],
     row: usize,
     i: usize,
-    gradient: [f64; 21],
-) -> [f64; 21]
+    gradient: &mut [f64; 21],
+)
     requires { ⌜ i < 21 ⌝ }
-    ensures { λ r. ⌜ r ≡ mix.gradientRow (now (doubles .entry)) (now (x .entry)) row i gradient ⌝ }
+    ensures { λ _. ⌜ now (gradient .exit) ≡ mix.gradientRow (now (doubles .entry)) (now (x .entry)) row i (now (gradient .entry)) ⌝ }
 {
-    let mut h = gradient;
     for j in i..21 {
-        let next = gradient_pair(doubles, x, row, i, j, h);
-        h = next;
+        gradient_pair(doubles, x, row, i, j, gradient);
     }
-    h
 }
 
 fn gradient(doubles: &[f64; 4086], x: &[f64; 21], row: usize) -> [f64; 21]
@@ -83,8 +80,7 @@ fn gradient(doubles: &[f64; 4086], x: &[f64; 21], row: usize) -> [f64; 21]
 {
     let mut h = [0.0; 21];
     for i in 0..21 {
-        let next = gradient_row(doubles, x, row, i, h);
-        h = next;
+        gradient_row(doubles, x, row, i, &mut h);
     }
     h
 }

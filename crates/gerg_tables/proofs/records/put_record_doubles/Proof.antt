@@ -1,70 +1,72 @@
-use mathlib.Core.Path.{_≡_}
-use Prim.Native.Nat.{ℕ, _+_, _-_, _≤_, _<_}
-use lib.Seq.{sets}
-use Rattle.gerg_tables.specs.Load.{doublesOf}
-use Rattle.gerg_tables.proofs.Put.{near, room, no-records, record-on}
 use native.Mathlib.Omega.{arith}
+use Prim.Native.Nat.{ℕ, _+_, _*_, _≤_}
 use borrow.Author.Needs.{needs}
 use Rattle.gerg_tables.proofs.records.put_record_doubles.Statement.{statement}
 use Rattle.gerg_tables.proofs.records.put_record_doubles.Tie as tie
 
-abbrev Inv-loop : tie.InvT-loop
-Inv-loop s r offset count per to out₀ k₀ out k = (k ≤ count) × (out ≡ sets out₀ to (doublesOf s r offset k per))
+add-holds : tie.Need-add-holds
+add-holds c = search needs
 
-abbrev μ-loop : tie.MeasureT-loop
-μ-loop s r offset count per to out₀ k₀ out k = count - k
+mul-holds : tie.Need-mul-holds
+mul-holds c = search needs
 
-loop-holds : tie.Need-loop-holds Inv-loop μ-loop
-loop-holds c = (omega arith, no-records _ _ _ _ _ _)
+add-holds-2 : tie.Need-add-holds-2
+add-holds-2 c = search needs
 
-present-requires : tie.Need-present-requires Inv-loop μ-loop
-present-requires c κs = search needs
+holds-requires : tie.Need-holds-requires
+holds-requires c κs = search needs
 
-add-put-doubles : tie.Need-add-put-doubles Inv-loop μ-loop
-add-put-doubles c = omega arith
+put-two-of-each-requires : tie.Need-put-two-of-each-requires
+put-two-of-each-requires c κs =
+    let a = c .before .before .before .before .before .before .before .before .args in
+    let h : a .to + 2 * a .count ≤ 4086 = rw (c .before .before .before .before .before .before .if1 .taken) at (c .before .before .before .before .before .before .before .before .pre .1 .1 .1 .1) in
+    (c .before .before .before .before .if2 .taken, omega (arith, h, c .before .before .holds .ensures .1 (c .before .if3 .taken)))
 
-mul-put-doubles : tie.Need-mul-put-doubles Inv-loop μ-loop
-mul-put-doubles c = let a = c .before .before .before .before .before .before .args in let h : a .r .size < 256 = omega arith in let g : a .r .before + c .before .before .before .before .loop .k < 131072 = omega arith in omega (arith, near h g)
+returns : tie.Need-returns
+returns c = rw (c .before .before .before .before .before .before .before .if1 .taken) (c .put-two-of-each .ensures)
 
-add-put-doubles-2 : tie.Need-add-put-doubles-2 Inv-loop μ-loop
-add-put-doubles-2 c = let a = c .before .before .before .before .before .before .args in let h : a .r .size < 256 = omega arith in let g : a .r .before + c .before .before .before .before .loop .k < 131072 = omega arith in omega (arith, near h g)
+add-holds-3 : tie.Need-add-holds-3
+add-holds-3 c = search needs
 
-mul-put-doubles-2 : tie.Need-mul-put-doubles-2 Inv-loop μ-loop
-mul-put-doubles-2 c = let a = c .before .before .before .before .before .before .args in omega (arith, room (a .per) (c .before .before .before .before .loop .k) (a .count) (c .before .before .before .loop-test .taken))
+mul-holds-2 : tie.Need-mul-holds-2
+mul-holds-2 c = search needs
 
-add-put-doubles-3 : tie.Need-add-put-doubles-3 Inv-loop μ-loop
-add-put-doubles-3 c = let a = c .before .before .before .before .before .before .args in omega (arith, room (a .per) (c .before .before .before .before .loop .k) (a .count) (c .before .before .before .loop-test .taken))
+add-holds-4 : tie.Need-add-holds-4
+add-holds-4 c = search needs
 
-put-doubles-requires : tie.Need-put-doubles-requires Inv-loop μ-loop
-put-doubles-requires c κs = let a = c .before .before .before .before .before .before .before .args in let h : a .r .size < 256 = omega arith in let g : a .r .before + c .before .before .before .before .before .loop .k < 131072 = omega arith in omega (arith, near h g, room (a .per) (c .before .before .before .before .before .loop .k) (a .count) (c .before .before .before .before .loop-test .taken))
+holds-requires-2 : tie.Need-holds-requires-2
+holds-requires-2 c κs = search needs
 
-add-k : tie.Need-add-k Inv-loop μ-loop
-add-k c = omega arith
+put-five-of-each-requires : tie.Need-put-five-of-each-requires
+put-five-of-each-requires c κs =
+    let a = c .before .before .before .before .before .before .before .before .before .args in
+    let h : a .to + 5 * a .count ≤ 4086 = rw (c .before .before .before .before .before .before .if4 .taken) at (c .before .before .before .before .before .before .before .before .before .pre .1 .1 .1 .1) in
+    (c .before .before .before .before .if5 .taken, omega (arith, h, c .before .before .holds2 .ensures .1 (c .before .if6 .taken)))
 
-loop-less : tie.Need-loop-less Inv-loop μ-loop
-loop-less c = omega arith
+returns-2 : tie.Need-returns-2
+returns-2 c = rw (c .before .before .before .before .before .before .before .if4 .taken) (c .put-five-of-each .ensures)
 
-loop-again : tie.Need-loop-again Inv-loop μ-loop
-loop-again c = (omega arith, record-on _ _ _ _ _ _ _ (c .before .before .before .before .before .before .loop .inv .1) (c .before .before .before .before .present .ensures) (c .put-doubles .ensures))
+put-any-doubles-requires : tie.Need-put-any-doubles-requires
+put-any-doubles-requires c κs = search needs
 
-returns : tie.Need-returns Inv-loop μ-loop
-returns c = let e : c .before .loop .k ≡ c .before .before .before .args .count = omega arith in rw e at (c .before .loop .inv .1)
+returns-3 : tie.Need-returns-3
+returns-3 c = search needs
 
 pub put-record-doubles-spec : {M : Type 1} → statement M
 put-record-doubles-spec =
     tie.close
     (tie.spec
-    Inv-loop
-    μ-loop
-    loop-holds
-    present-requires
-    add-put-doubles
-    mul-put-doubles
-    add-put-doubles-2
-    mul-put-doubles-2
-    add-put-doubles-3
-    put-doubles-requires
-    add-k
-    loop-less
-    loop-again
-    returns)
+    add-holds
+    mul-holds
+    add-holds-2
+    holds-requires
+    put-two-of-each-requires
+    returns
+    add-holds-3
+    mul-holds-2
+    add-holds-4
+    holds-requires-2
+    put-five-of-each-requires
+    returns-2
+    put-any-doubles-requires
+    returns-3)

@@ -5,21 +5,21 @@ use borrow.Author.Needs.{needs}
 use Rattle.gerg_model.proofs.mixture.gradients.bump.Statement.{statement}
 use Rattle.gerg_model.proofs.mixture.gradients.bump.Tie as tie
 
-mul-h : tie.Need-mul-h
-mul-h c = search needs
+mul-gradient : tie.Need-mul-gradient
+mul-gradient c = search needs
 
-array-read-h : tie.Need-array-read-h
-array-read-h c = search needs
+element-copy-out-gradient : tie.Need-element-copy-out-gradient
+element-copy-out-gradient c = search needs
 
-mul-h-2 : tie.Need-mul-h-2
-mul-h-2 c = search needs
+mul-gradient-2 : tie.Need-mul-gradient-2
+mul-gradient-2 c = search needs
 
-array-write-h : tie.Need-array-write-h
-array-write-h c = search needs
+element-write-gradient : tie.Need-element-write-gradient
+element-write-gradient c = search needs
 
 returns : tie.Need-returns
 unfolding bumped
 returns c = refl
 
 pub bump-spec : {M : Type 1} → statement M
-bump-spec = tie.close (tie.spec mul-h array-read-h mul-h-2 array-write-h returns)
+bump-spec = tie.close (tie.spec mul-gradient element-copy-out-gradient mul-gradient-2 element-write-gradient returns)

@@ -26,7 +26,7 @@ loop-less : tie.Need-loop-less Inv-loop μ-loop
 loop-less c = omega arith
 
 loop-again : tie.Need-loop-again Inv-loop μ-loop
-loop-again c = (omega arith, iter-turn _ _ _ (c .before .before .loop .inv .1) (c .gradient-row .ensures))
+loop-again c = (omega arith, iter-turn _ _ _ (c .before .before .before .loop .inv .1) (c .gradient-row .ensures))
 
 returns : tie.Need-returns Inv-loop μ-loop
 unfolding gradientOf

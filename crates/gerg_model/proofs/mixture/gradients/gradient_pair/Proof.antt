@@ -31,14 +31,14 @@ bump-requires c κs = search needs
 
 returns-2 : tie.Need-returns-2
 unfolding gradientPair
-returns-2 c = rw (c .before .before .before .before .if1 .left, c .before .if2 .taken, ← c .before .before .before .b-of-pair .ensures, ← c .before .before .weight-of-pair .ensures) (c .bump .ensures)
+returns-2 c = rw (c .before .before .before .before .before .if1 .left, c .before .before .if2 .taken, ← c .before .before .before .before .b-of-pair .ensures, ← c .before .before .before .weight-of-pair .ensures) (c .bump .ensures)
 
 bump-requires-2 : tie.Need-bump-requires-2
 bump-requires-2 c κs = search needs
 
 returns-3 : tie.Need-returns-3
 unfolding gradientPair
-returns-3 c = rw (c .before .before .before .before .before .if1 .left, c .before .before .if2 .left, c .before .if3 .taken, ← c .before .before .before .weight-of-pair .ensures) (c .bump2 .ensures)
+returns-3 c = rw (c .before .before .before .before .before .before .if1 .left, c .before .before .before .if2 .left, c .before .before .if3 .taken, ← c .before .before .before .before .weight-of-pair .ensures) (c .bump2 .ensures)
 
 first-part-requires : tie.Need-first-part-requires
 first-part-requires c κs = search needs
@@ -54,7 +54,7 @@ bump-requires-4 c κs = search needs
 
 returns-4 : tie.Need-returns-4
 unfolding gradientPair
-returns-4 c = rw (c .before .before .before .before .before .before .before .before .if1 .left, c .before .before .before .before .before .if2 .left, c .before .before .before .before .if3 .left, ← c .before .before .before .before .before .before .before .b-of-pair .ensures, ← c .before .before .before .before .before .before .weight-of-pair .ensures, ← c .before .before .before .first-part .ensures, ← c .before .second-part .ensures, ← c .before .before .bump3 .ensures) (c .bump4 .ensures)
+returns-4 c = rw (c .before .before .before .before .before .before .before .before .before .before .if1 .left, c .before .before .before .before .before .before .before .if2 .left, c .before .before .before .before .before .before .if3 .left, ← c .before .before .before .before .before .before .before .before .before .b-of-pair .ensures, ← c .before .before .before .before .before .before .before .before .weight-of-pair .ensures, ← c .before .before .before .before .first-part .ensures, ← c .before .second-part .ensures, ← c .before .before .before .bump3 .ensures) (c .bump4 .ensures)
 
 pub gradient-pair-spec : {M : Type 1} → statement M
 gradient-pair-spec =

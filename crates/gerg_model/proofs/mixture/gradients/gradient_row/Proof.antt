@@ -8,10 +8,10 @@ use Rattle.gerg_model.proofs.mixture.gradients.gradient_row.Statement.{
 use Rattle.gerg_model.proofs.mixture.gradients.gradient_row.Tie as tie
 
 abbrev Inv-loop : tie.InvT-loop
-Inv-loop doubles x row i h₀ j₀ h j = (i ≤ j) × (j ≤ 21) × (h ≡ range (gradientPair doubles x row i) i j h₀)
+Inv-loop doubles x row i gradient₀ j₀ gradient j = (i ≤ j) × (j ≤ 21) × (gradient ≡ range (gradientPair doubles x row i) i j gradient₀)
 
 abbrev μ-loop : tie.MeasureT-loop
-μ-loop doubles x row i h₀ j₀ h j = 21 - j
+μ-loop doubles x row i gradient₀ j₀ gradient j = 21 - j
 
 loop-holds : tie.Need-loop-holds Inv-loop μ-loop
 loop-holds c = (omega arith, omega arith, range-begins _ _ _)
@@ -26,7 +26,7 @@ loop-less : tie.Need-loop-less Inv-loop μ-loop
 loop-less c = omega arith
 
 loop-again : tie.Need-loop-again Inv-loop μ-loop
-loop-again c = (omega arith, omega arith, range-turn _ _ _ _ (omega arith) (c .before .before .loop .inv .2) (c .gradient-pair .ensures))
+loop-again c = (omega arith, omega arith, range-turn _ _ _ _ (omega arith) (c .before .before .before .loop .inv .2) (c .gradient-pair .ensures))
 
 returns : tie.Need-returns Inv-loop μ-loop
 unfolding gradientRow
