@@ -17,14 +17,17 @@ use Rattle.gerg_density.proofs.Laws.Gap.{lt→count}
 use Rattle.gerg_flash.specs.Roots.{beyondFive, withinEnvelope, searchedOf}
 use Rattle.gerg_ph.specs.Checks.{positiveFractions, positivePlace, refusedBy, saturationRefused}
 use Rattle.gerg_ph.specs.Sampling.{rootsSample, sampleOf, verdictOf}
-use Rattle.gerg_ph.specs.Halvings.{encloses, trialsFrom, trialsOf}
-use Rattle.gerg_ph.specs.Saturation.{verdictAt, intervalOf, saturationTrials}
+use Rattle.gerg_ph.specs.Halvings.{encloses, trialsFrom, searchOf, trialsOf}
+use Rattle.gerg_ph.specs.Saturation.{verdictAt, intervalOf, pureSaturationOf, saturationTrials}
 use Rattle.gerg_ph.specs.declared.Sample.{Sample}
 use Rattle.gerg_ph.specs.declared.Sample.the-variants as sampled
 use Rattle.gerg_ph.specs.declared.Verdict.{Verdict}
 use Rattle.gerg_ph.specs.declared.Verdict.the-variants.{Accepted, Apart, Refused}
+use Rattle.gerg_ph.specs.declared.SaturationAnswer.the-variants as answer
 use Rattle.gerg_ph.proofs.Laws.Halved.{Within, ends-good, at-least, at-most}
 use Rattle.gerg_ph.proofs.Laws.Bounded.{bounded}
+use Rattle.gerg_ph.proofs.Laws.Numbers.{verdict-number}
+use Rattle.gerg_ph.proofs.Laws.Reported.{numberOf, unlike, search-reports}
 
 -- ---- ends that enclose are apart, so neither is refused
 abbrev isApart : Verdict → Bool
@@ -103,3 +106,18 @@ at-most-60-trials t m gradients range pressure lo hi limit f g =
         (bounded (verdictAt t m gradients range pressure) limit (intervalOf lo hi)
         (within lo hi pressure f g (rising (positiveFractions m) lo hi p) (inside-envelope t m gradients range pressure lo (e .0)) (inside-envelope t m gradients range pressure hi (e .1))))
         (lit≤ tt)
+
+-- "the value of row 26 is the list's length"
+pub row-26-value :
+    (t : Tables) (m : GergModel) (gradients : List (List Float)) (range : Range) (pressure lo hi : Float) (limit n : ℕ) →
+    pureSaturationOf t m gradients range pressure lo hi limit ≡ answer.Refused 26 n →
+    n ≡ length (saturationTrials t m gradients range pressure lo hi limit)
+unfolding pureSaturationOf saturationTrials
+row-26-value t m gradients range pressure lo hi limit n = go (saturationRefused m lo hi)
+  where
+    go :
+        (q : Bool) →
+        pick q (answer.Refused 25 0) (searchOf (verdictAt t m gradients range pressure) limit (intervalOf lo hi)) ≡ answer.Refused 26 n →
+        n ≡ length (pick q [] (trialsOf (verdictAt t m gradients range pressure) limit (intervalOf lo hi)))
+    go true e = unlike 25 (lit≤ tt) (ap numberOf e)
+    go false e = search-reports (verdictAt t m gradients range pressure) (λ x. verdict-number t m gradients range pressure x) limit (intervalOf lo hi) n e
