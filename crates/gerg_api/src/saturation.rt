@@ -56,16 +56,9 @@ pub fn pure_saturation(
 ) -> SaturationAnswer
     ensures { λ r. ⌜ r ≡ is.saturationCall (now (file .entry)) (now (list .entry)) (now (fractions .entry)) target lo hi limit ⌝ }
 {
-    let read = gerg_tables::read_tables(file);
-    let answer = read.answer;
-    let mixed = rows::mixed(&read.tables.doubles, answer, list, fractions);
-    saturation_from(
-        &read.tables.doubles,
-        &read.tables.integers,
-        mixed,
-        target,
-        lo,
-        hi,
-        limit,
-    )
+    let mut doubles = [0.0; 4086];
+    let mut integers = [0u8; 1631];
+    let answer = gerg_tables::read_tables_into(file, &mut doubles, &mut integers);
+    let mixed = rows::mixed(&doubles, answer, list, fractions);
+    saturation_from(&doubles, &integers, mixed, target, lo, hi, limit)
 }
