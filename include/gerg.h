@@ -116,7 +116,14 @@ enum gerg_state {
 };
 
 /* Places of one root; its coefficients follow, so a root has GERG_ROOT_PLACES + list_len doubles. */
-enum gerg_root { GERG_ROOT_DENSITY, GERG_ROOT_PRESSURE, GERG_ROOT_COMPRESSIBILITY, GERG_ROOT_GIBBS_ENERGY, GERG_ROOT_PLACES };
+enum gerg_root {
+    GERG_ROOT_DENSITY,         /* mol/m3 */
+    GERG_ROOT_PRESSURE,        /* Pa */
+    GERG_ROOT_COMPRESSIBILITY,
+    GERG_ROOT_GIBBS_ENERGY,    /* J/mol */
+    GERG_ROOT_PLACES,
+    GERG_MOST_ROOTS = 385      /* one between two neighbours of the grid, which has 386 densities at most */
+};
 
 /* Places of `out` of gerg_pure_saturation. */
 enum gerg_saturation {
