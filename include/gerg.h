@@ -153,12 +153,13 @@ uint64_t gerg_density(const uint8_t *file, size_t file_len, const uint8_t *list,
                       double t, double target, double lo, double hi, uint64_t limit, double tolerance, double out[GERG_DENSITY_PLACES]);
 
 /* Densities at which the pressure is p, outside the unstable region seen on a grid of densities, rising. Components 1 to 5 only,
- * T in 230..350, p in 1e5..1e7. Value: the number of roots; where `out` is too short it is refused with the doubles needed as the value. */
+ * T in 230..350, p in 1e5..1e7. Value: the number of roots; where `out` is too short it is refused with the doubles needed as the value.
+ * Doubles of `out` past the roots stay. */
 uint64_t gerg_outer_roots(const uint8_t *file, size_t file_len, const uint8_t *list, size_t list_len, const double *fractions, size_t fractions_len,
                           double t, double p, double *out, size_t out_len);
 
-/* The temperature in [lo, hi] at which a pure fluid's outermost roots have one fugacity. One positive fraction, components 1 to 5 only.
- * Value: 1 found; 0 where [lo, hi] does not enclose it, and then `out` is as it was. */
+/* The temperature in [lo, hi] at which a pure fluid's outermost roots have one fugacity. One positive fraction, components 1 to 5 only,
+ * 230 <= lo < hi <= 350, p in 1e5..1e7. Value: 1 found; 0 where [lo, hi] does not enclose it, and then `out` is as it was. */
 uint64_t gerg_pure_saturation(const uint8_t *file, size_t file_len, const uint8_t *list, size_t list_len, const double *fractions, size_t fractions_len,
                               double p, double lo, double hi, uint64_t limit, double out[GERG_SATURATION_PLACES]);
 

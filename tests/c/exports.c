@@ -75,8 +75,10 @@ static void states(void)
     expect("w^2 = cp/cv dp/drho / M", near(out[GERG_SPEED_OF_SOUND] * out[GERG_SPEED_OF_SOUND],
         out[GERG_CP] / out[GERG_CV] * out[GERG_DP_DRHO] / (out[GERG_MASS_DENSITY] / 2000.0)));
     expect("Z = 1 + ar_d", near(out[GERG_COMPRESSIBILITY], 1.0 + out[GERG_AR_D]));
+    const double z = out[GERG_COMPRESSIBILITY], residual = out[GERG_AR] + z - 1.0 - log(z);
     lend();
     accepted("fugacity", gerg_fugacity(GAS, 300.0, 2000.0, out, ROOM), 0, 2);
+    expect("the mean ln phi is the residual Gibbs energy", near(0.9 * out[0] + 0.1 * out[1], residual));
     lend();
     refused("no list", gerg_properties(TABLES, file, 0, HALVES, 300.0, 1.0, out), GERG_BAD_LIST, 0);
     refused("unknown component", gerg_properties(TABLES, (const uint8_t[]){1, 22}, 2, HALVES, 300.0, 1.0, out), GERG_BAD_LIST, 1);

@@ -115,7 +115,7 @@ pub fn properties(file: &[u8], mixture: &Mixture, t: f64, rho: f64) -> Result<St
 /// use gerg::{Component::*, Mixture};
 /// let file = std::fs::read(gerg::DEFAULT_FILE).unwrap();
 /// let ln_phi = gerg::fugacity(&file, &Mixture::new([(Methane, 1.0), (Propane, 0.0)]), 300.0, 40.0).unwrap();
-/// assert_eq!(ln_phi.len(), 2);
+/// assert!(ln_phi[1] < ln_phi[0] && ln_phi[0] < 0.0);
 /// ```
 pub fn fugacity(file: &[u8], mixture: &Mixture, t: f64, rho: f64) -> Result<Vec<f64>, Refusal> {
     let mut out = vec![0.0; mixture.components().len()];

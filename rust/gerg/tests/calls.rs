@@ -35,7 +35,10 @@ fn all_21_components() {
     assert_eq!(gerg::properties(&file(), &gas, 400.0, 12798.28626082062), Err(Refusal { cause: Cause::PressureOutOfRange, value: 0 }));
     let found = gerg::density(&file(), &gas, 400.0, 30e6, Search::between(5000.0, 12000.0)).unwrap();
     assert!((found.state.mass_density / found.state.molar_density - 0.0205427445016).abs() < 1e-15);
-    assert_eq!(gerg::fugacity(&file(), &gas, 400.0, found.state.molar_density).unwrap().len(), 21);
+    let ln_phi = gerg::fugacity(&file(), &gas, 400.0, found.state.molar_density).unwrap();
+    let mean: f64 = gas.fractions().iter().zip(&ln_phi).map(|(x, v)| x * v).sum();
+    let z = found.state.compressibility;
+    assert!((mean - (found.state.derivatives.ar + z - 1.0 - z.ln())).abs() < 1e-12, "the mean ln phi is the residual Gibbs energy");
 }
 
 #[test]
