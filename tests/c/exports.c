@@ -182,7 +182,10 @@ static void files(void)
     length = whole + 1;
     refused("a byte over", gerg_properties(PURE(1), 300.0, 1.0, out), GERG_BAD_FILE, (uint32_t)whole);
     length = whole;
-    const double zero = 0.0, nothing = NAN;
+    /* With gt of ethane, pair 60 from 0, far above its own the liquid is so stiff that no double has the pressure. */
+    const double far = 1400.0, zero = 0.0, nothing = NAN;
+    memcpy(file + pairs + 60 * 44 + 19, &far, sizeof far);
+    refused("root not converged", gerg_outer_roots(PURE(GERG_ETHANE), 300.0, 1e5, out, ROOM), GERG_ROOT_NOT_CONVERGED, 0);
     memcpy(file + pairs + 27, &zero, sizeof zero);
     refused("gv of methane 0", gerg_properties(PURE(1), 300.0, 1.0, out), GERG_BAD_REDUCING_VALUES, 0);
     memcpy(file + pairs + 3, &nothing, sizeof nothing);
