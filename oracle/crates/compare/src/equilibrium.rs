@@ -4,6 +4,44 @@ use crate::case::{Call, Case, Mixture};
 use crate::generate::{Random, damaged, fractions, near, shuffled};
 use crate::upstream;
 
+/// A bound and the doubles next to it.
+fn around(bound: f64) -> [f64; 3] {
+    [bound.next_down(), bound, bound.next_up()]
+}
+
+fn pure(gas: u8) -> Mixture {
+    Mixture { list: vec![gas], fractions: vec![1.0] }
+}
+
+/// Fixed calls: every corner of row 21 with the doubles next to it, and every room about one and two roots of ethane at 260 K.
+fn root_edges() -> Vec<Case> {
+    let (temperatures, pressures) = ([around(230.0), around(350.0)].concat(), [around(1e5), around(1e7)].concat());
+    let corner = |t: &f64, p: &f64| Case { mixture: pure(4), call: Call::Roots { t: *t, p: *p }, room: 10 };
+    let mut cases: Vec<Case> = temperatures.iter().flat_map(|t| pressures.iter().map(move |p| corner(t, p))).collect();
+    for p in [1e5, 1.5e6] {
+        cases.extend((0..=12).map(|room| Case { mixture: pure(4), call: Call::Roots { t: 260.0, p }, room }));
+    }
+    cases
+}
+
+/// Fixed calls: propane with each pressure and each pair of ends about the bounds, and with each way in which ends are bad.
+fn saturation_edges() -> Vec<Case> {
+    let case = |p: f64, lo: f64, hi: f64, limit: u64| Case { mixture: pure(5), call: Call::Saturation { p, lo, hi, limit }, room: 9 };
+    let mut cases: Vec<Case> = [around(1e5), around(1e7)].concat().into_iter().map(|p| case(p, 230.0, 350.0, 100)).collect();
+    for lo in around(230.0) {
+        cases.extend(around(350.0).map(|hi| case(1e6, lo, hi, 100)));
+    }
+    for odd in [f64::NAN, f64::INFINITY, f64::NEG_INFINITY, 290.0, 290.0f64.next_down(), 290.0f64.next_up()] {
+        cases.extend([case(1e6, odd, 290.0, 100), case(1e6, 290.0, odd, 100)]);
+    }
+    cases.extend((0..60).chain([u64::MAX]).map(|limit| case(1e6, 230.0, 350.0, limit)));
+    cases
+}
+
+pub fn edges() -> Vec<Case> {
+    [root_edges(), saturation_edges()].concat()
+}
+
 /// A zero fraction of either sign.
 fn zero(r: &mut Random) -> f64 {
     r.pick(&[0.0, -0.0])

@@ -14,7 +14,7 @@ use generate::Random;
 use std::collections::BTreeMap;
 use std::process::ExitCode;
 
-const KINDS: [&str; 5] = ["properties", "fugacity", "density", "roots", "saturation"];
+const KINDS: [&str; 6] = ["properties", "fugacity", "density", "roots", "saturation", "edges"];
 
 #[derive(Default)]
 struct Counts {
@@ -36,11 +36,18 @@ fn recorded(case: &Case, expected: &Answer) -> Option<&'static str> {
     }
 }
 
+/// As many calls of a kind as were asked for; all edges, however many were.
+fn calls(seed: u64, kind: &str, count: u64) -> Box<dyn Iterator<Item = Case>> {
+    if kind == "edges" {
+        return Box::new(equilibrium::edges().into_iter());
+    }
+    let (mut random, kind) = (Random::new(seed ^ kind.bytes().fold(0, |a, b| a * 31 + u64::from(b))), kind.to_string());
+    Box::new((0..count).map(move |_| generate::case(&mut random, &kind)))
+}
+
 fn compare(file: &[u8], seed: u64, kind: &str, count: u64) -> Counts {
-    let mut random = Random::new(seed ^ kind.bytes().fold(0, |a, b| a * 31 + u64::from(b)));
     let mut counts = Counts::default();
-    for _ in 0..count {
-        let case = generate::case(&mut random, kind);
+    for case in calls(seed, kind, count) {
         let (ours, theirs) = (archive::answer(file, &case), upstream::answer(&case));
         counts.compared += 1;
         *counts.by_number.entry(theirs.number).or_default() += 1;
