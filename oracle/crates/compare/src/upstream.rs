@@ -1,7 +1,8 @@
 //! The Rust's answer to a call, with each error as document 01's number and value. Rows 3 and 4, which the Rust has in `Composition`, row 14's added
 //! causes, row 24 and row 25 are worked out here from document 01's text.
 use crate::case::{Answer, Call, Case, Mixture, lent};
-use thermo_models::{GergFugacityState, GergModel, GergState};
+use elementary::Elementary as _;
+use thermo_models::{GERG_GAS_CONSTANT, GergFugacityState, GergModel, GergState};
 use thermo_solvers::{GergDensityOptions, PureSaturation, gerg_density, gerg_outer_roots, pure_saturation};
 use thermo_types::{CalculationError as Error, ComponentId, Composition, CompositionBasis, InputError, NormalizationPolicy, Pressure, Temperature};
 
@@ -132,6 +133,19 @@ fn root_numbers(roots: &[GergFugacityState]) -> Vec<f64> {
         numbers
     };
     roots.iter().flat_map(one).collect()
+}
+
+/// How often the pressure rises through p on the grid of `gerg_outer_roots`, which says nothing of the crossings that it drops. For counting kinds only.
+pub fn crossings(mixture: &Mixture, t: f64, p: f64) -> usize {
+    let model = model(mixture).expect("an accepted mixture");
+    let logarithmic = (0..=128).map(|i| 0.001 * (f64::from(i) / 128.0 * (30000.0_f64 / 0.001).elementary_ln()).elementary_exp());
+    let even = (0..=256).map(|i| 0.001 + f64::from(i) / 256.0 * (30000.0 - 0.001));
+    let mut grid: Vec<f64> = logarithmic.chain(even).map(|rho| rho.clamp(0.001, 30000.0)).collect();
+    grid.sort_by(f64::total_cmp);
+    grid.dedup();
+    let off = |rho: &f64| rho * (GERG_GAS_CONSTANT * t) * (1.0 + model.helmholtz(Temperature::new(t).unwrap(), *rho).expect("a sample").ar_d) - p;
+    let off: Vec<f64> = grid.iter().map(off).collect();
+    off.windows(2).filter(|pair| pair[0] <= 0.0 && pair[1] >= 0.0).count()
 }
 
 fn saturation_numbers(s: &PureSaturation) -> Vec<f64> {
