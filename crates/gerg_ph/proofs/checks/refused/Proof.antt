@@ -12,7 +12,7 @@ is-finite-requires-2 c κs = search needs
 
 returns : tie.Need-returns
 unfolding refusedBy
-returns c = cc
+returns c = rw (c .is-finite2 .ensures, c .before .is-finite .ensures)
 
 pub refused-spec : {M : Type 1} → statement M
 refused-spec =
