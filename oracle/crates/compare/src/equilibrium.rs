@@ -139,11 +139,15 @@ fn spoiled(r: &mut Random, mixture: &mut Mixture) {
     }
 }
 
-/// The saturation temperature at p between the ends, where the Rust finds one.
+/// The saturation temperature at p, or above the critical pressure the one at which the root passes the reducing density.
 fn found_at(mixture: &Mixture, p: f64) -> Option<f64> {
     let call = Call::Saturation { p, lo: 230.0, hi: 350.0, limit: 100 };
     let answer = upstream::answer(&Case { mixture: mixture.clone(), call, room: 9 });
-    (answer.number == 0 && answer.value == 1).then(|| answer.out[0])
+    match (answer.number, answer.value) {
+        (0, 1) => Some(answer.out[0]),
+        (26, _) => Some(upstream::passes_at(mixture, p)),
+        _ => None,
+    }
 }
 
 fn plain_ends(r: &mut Random) -> (f64, f64) {
@@ -151,7 +155,7 @@ fn plain_ends(r: &mut Random) -> (f64, f64) {
     (r.between(230.0, middle), r.between(middle, 350.0))
 }
 
-/// Ends that touch the saturation temperature, or lie close around it, or all above or below it.
+/// Ends that touch a temperature, or lie close around it, or all above or below it.
 fn ends_near(r: &mut Random, t: f64) -> (f64, f64) {
     match r.below(10) {
         0 => (t, r.between(t, 350.0)),
@@ -185,13 +189,15 @@ fn ends(r: &mut Random, mixture: &Mixture, p: f64) -> (f64, f64) {
     }
 }
 
-/// Mostly a pressure at which the gas saturates from 230 to 350 K, else one above its critical pressure or below its lowest.
+/// Mostly a pressure at which the gas saturates from 230 to 350 K, or one above its critical pressure, else any.
 fn pressure(r: &mut Random, mixture: &Mixture) -> f64 {
     let gas = mixture.fractions.iter().position(|x| *x > 0.5).and_then(|place| mixture.list.get(place)).copied();
     match gas {
         _ if r.one_in(15) => near(r, &[1e5, 1e7]),
         _ if r.one_in(6) => r.log_between(1e5, 1e7),
+        Some(3) if r.one_in(5) => r.between(7.4e6, 1e7),
         Some(3) => r.log_between(9e5, 7.3e6),
+        Some(4) if r.one_in(5) => r.between(4.9e6, 1e7),
         Some(4) => r.log_between(7e5, 4.8e6),
         Some(5) => r.log_between(1e5, 2.9e6),
         _ => r.log_between(1e5, 1e7),

@@ -155,8 +155,8 @@ fn saturation_numbers(s: &PureSaturation) -> Vec<f64> {
     ]
 }
 
-/// Middles strictly between the ends, as many as the limit allows, when none is accepted: the Rust's error does not say.
-fn exhausted_trials(model: &GergModel, p: f64, lo: f64, hi: f64, limit: u64) -> u32 {
+/// Middles strictly between the ends, as many as the limit allows, when none is accepted, and the last lower end: the Rust's error says neither.
+fn exhausted(model: &GergModel, p: f64, lo: f64, hi: f64, limit: u64) -> (u32, f64) {
     let (mut lo, mut hi, mut trials) = (lo, hi, 0);
     for _ in 0..limit {
         let mid = lo + 0.5 * (hi - lo);
@@ -170,7 +170,12 @@ fn exhausted_trials(model: &GergModel, p: f64, lo: f64, hi: f64, limit: u64) -> 
             _ => hi = mid,
         }
     }
-    trials
+    (trials, lo)
+}
+
+/// The double below the temperature at which one root passes the reducing density, for a search from 230 to 350 K that nothing ends but its ends.
+pub fn passes_at(mixture: &Mixture, p: f64) -> f64 {
+    exhausted(&model(mixture).expect("an accepted mixture"), p, 230.0, 350.0, u64::MAX).1
 }
 
 /// The accepted value and the numbers written, or the refusal.
@@ -209,7 +214,7 @@ fn accepted(case: &Case) -> Result<(u32, Vec<f64>), Refusal> {
             match pure_saturation(&model, Pressure::new(p).unwrap(), lo, hi, limit as usize) {
                 Ok(Some(found)) => Ok((1, saturation_numbers(&found))),
                 Ok(None) => Ok((0, Vec::new())),
-                Err(error) if format!("{error:?}").contains(EXHAUSTED) => Err((26, exhausted_trials(&model, p, lo, hi, limit))),
+                Err(error) if format!("{error:?}").contains(EXHAUSTED) => Err((26, exhausted(&model, p, lo, hi, limit).0)),
                 Err(error) => Err(refusal(&error)),
             }
         }
