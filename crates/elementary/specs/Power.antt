@@ -1,12 +1,14 @@
 -- powf and powi.
 use mathlib.Core.Bool.{Bool, cond, _&&_}
 use mathlib.Core.Path.{_≡_, refl, sym, ap, _∙_}
+use mathlib.Core.List.{[], _∷_}
 use Prim.Native.Nat.{ℕ, zero, suc, _-_, _*_, _%_, _/_, _^_, _<_}
 use native.Mathlib.Omega.{arith}
 use native.Mathlib.Nat.{pow-suc}
 use lib.Dec.{eqb, ltb}
 use lib.Ieee.{Float, nan, binary64, lt, le, eq, ofInt}
 use lib.IntN.{ℤ, pos, negsuc}
+use Rattle.numerics.specs.Fill.{tabulate}
 use Rattle.numerics.specs.Double.{_⊗_, _⊘_, +0, one, bits, pick}
 use Rattle.elementary.specs.Exp.{expOf}
 use Rattle.elementary.specs.Ln.{lnOf}
@@ -79,3 +81,12 @@ power-fuel (suc k) r b n h =
 -- a turn of the loop, for n below 2 ^ 32
 pub power-turn : (r b : Float) (n : ℕ) → n < 2 ^ 32 → powerFrom 32 r b n ≡ powerFrom 32 (cond (eqb (n % 2) 1) (r ⊗ b) r) (b ⊗ b) (n / 2)
 power-turn r b n h = sym (power-fuel 32 r b n h) ∙ power-digit 32 r b n
+
+-- the powers 0 to 7, whose squares are shared
+pub powers-below-8 :
+    (x : Float) →
+    tabulate (powiByteOf x) 8
+    ≡ one ∷ (one ⊗ x) ∷ (one ⊗ (x ⊗ x)) ∷ (one ⊗ x ⊗ (x ⊗ x)) ∷ (one ⊗ (x ⊗ x ⊗ (x ⊗ x))) ∷ (one ⊗ x ⊗ (x ⊗ x ⊗ (x ⊗ x)))
+    ∷ (one ⊗ (x ⊗ x) ⊗ (x ⊗ x ⊗ (x ⊗ x))) ∷ (one ⊗ x ⊗ (x ⊗ x) ⊗ (x ⊗ x ⊗ (x ⊗ x))) ∷ []
+unfolding tabulate powiOf signedOf powerOf powerFrom
+powers-below-8 x = refl

@@ -3,7 +3,8 @@
 ghost use mathlib.Core.Path.{_≡_};
 ghost use lib.IntN.{natAbs};
 ghost use lib.Ieee.{ofInt, binary64};
-ghost use Rattle.elementary.specs.Power.{powfOf, powfFrom, powerOf, powiOf, signedOf};
+ghost use Rattle.numerics.specs.Fill.{tabulate};
+ghost use Rattle.elementary.specs.Power.{powfOf, powfFrom, powerOf, powiOf, powiByteOf, signedOf};
 use crate::exp;
 use crate::ln;
 
@@ -73,6 +74,26 @@ pub fn powi_byte(x: f64, b: u8) -> f64
         return power(x, b as u32);
     }
     1.0 / power(x, 256 - (b as u32))
+}
+
+// x to the powers 0 to 7, as powi takes them: the squares are shared.
+pub fn powers_below_8(x: f64) -> [f64; 8]
+    ensures { λ r. ⌜ r ≡ tabulate (powiByteOf x) 8 ⌝ }
+{
+    let square = x * x;
+    let fourth = square * square;
+    let first = 1.0 * x;
+    let second = 1.0 * square;
+    [
+        1.0,
+        first,
+        second,
+        first * square,
+        1.0 * fourth,
+        first * fourth,
+        second * fourth,
+        first * square * fourth,
+    ]
 }
 
 // A byte that is read as a signed number, as a double.

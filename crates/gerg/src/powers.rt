@@ -5,6 +5,7 @@ use gerg_model::mixture::wide;
 ghost use mathlib.Core.Path.{_≡_};
 ghost use Prim.Native.Nat.{_<_};
 ghost use lib.Ieee.{neg};
+ghost use Rattle.numerics.specs.Fill.{tabulate};
 ghost use Rattle.elementary.specs.Exp.{expOf};
 ghost use Rattle.elementary.specs.Ln.{lnOf};
 ghost use Rattle.elementary.specs.Power.{powfOf, signedDoubleOf};
@@ -20,27 +21,37 @@ fn plain_damping(delta: f64, q: u8) -> f64
     elementary_power::powi_byte(delta, q)
 }
 
-fn cell(delta: f64, logarithm: f64, c: u8) -> f64
-    requires { ⌜ (c < 24) × (logarithm ≡ lnOf delta) ⌝ }
+// The dampings for q from 0 to 7.
+fn small_dampings(delta: f64) -> [f64; 8]
+    ensures { λ r. ⌜ r ≡ tabulate (dampingOf delta) 8 ⌝ }
+{
+    let mut dampings = elementary_power::powers_below_8(delta);
+    dampings[0] = 0.0;
+    dampings
+}
+
+fn cell(dampings: &[f64; 8], delta: f64, logarithm: f64, c: u8) -> f64
+    requires { ⌜ (c < 24) × (logarithm ≡ lnOf delta) × (now dampings ≡ tabulate (dampingOf delta) 8) ⌝ }
     ensures { λ r. ⌜ r ≡ powerCell delta c ⌝ }
 {
     if c < 8 {
         return elementary_power::powf_of_ln(delta, logarithm, elementary_power::signed_double(c));
     }
     if c < 16 {
-        return plain_damping(delta, c - 8);
+        return dampings[wide(c - 8)];
     }
-    exp::exp(-plain_damping(delta, c - 16))
+    exp::exp(-dampings[wide(c - 16)])
 }
 
 pub fn powers(delta: f64, logarithm: f64) -> [f64; 24]
     requires { ⌜ logarithm ≡ lnOf delta ⌝ }
     ensures { λ r. ⌜ r ≡ powersOf delta ⌝ }
 {
+    let dampings = small_dampings(delta);
     let mut out = [0.0; 24];
     let mut c = 0u8;
     while c < 24 {
-        out[wide(c)] = cell(delta, logarithm, c);
+        out[wide(c)] = cell(&dampings, delta, logarithm, c);
         c += 1;
     }
     out

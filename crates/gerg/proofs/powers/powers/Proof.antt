@@ -10,16 +10,19 @@ use Rattle.gerg.proofs.powers.powers.Statement.{statement}
 use Rattle.gerg.proofs.powers.powers.Tie as tie
 
 abbrev Inv-loop : tie.InvT-loop
-Inv-loop delta logarithm out₀ c₀ out c = (c ≤ 24) × (length out ≡ 24) × (length out₀ ≡ 24) × (out ≡ filled (powerCell delta) c out₀)
+Inv-loop delta logarithm dampings out₀ c₀ out c = (c ≤ 24) × (length out ≡ 24) × (length out₀ ≡ 24) × (out ≡ filled (powerCell delta) c out₀)
 
 abbrev μ-loop : tie.MeasureT-loop
-μ-loop delta logarithm out₀ c₀ out c = 24 - c
+μ-loop delta logarithm dampings out₀ c₀ out c = 24 - c
+
+small-dampings-requires : tie.Need-small-dampings-requires Inv-loop μ-loop
+small-dampings-requires c κs = search needs
 
 loop-holds : tie.Need-loop-holds Inv-loop μ-loop
 loop-holds c = (omega arith, refl, refl, fill-begins _ _)
 
 cell-requires : tie.Need-cell-requires Inv-loop μ-loop
-cell-requires c κs = (omega arith, c .before .before .pre)
+cell-requires c κs = (omega arith, c .before .before .before .before .pre, c .before .before .before .small-dampings .ensures)
 
 wide-requires : tie.Need-wide-requires Inv-loop μ-loop
 wide-requires c κs = search needs
@@ -38,7 +41,7 @@ loop-less c = omega arith
 
 loop-again : tie.Need-loop-again Inv-loop μ-loop
 loop-again c =
-    let l = c .before .before .before .loop in
+    let l = c .before .before .before .before .loop in
     (omega arith, simp length-set (l .inv .1), l .inv .2, rw (c .wide .ensures, c .before .cell .ensures) (fill-again _ _ _ (l .inv .3) (omega arith)))
 
 returns : tie.Need-returns Inv-loop μ-loop
@@ -51,6 +54,7 @@ powers-spec =
     (tie.spec
     Inv-loop
     μ-loop
+    small-dampings-requires
     loop-holds
     cell-requires
     wide-requires
