@@ -74,6 +74,7 @@ static uint64_t answer(const char *call, size_t file_len, size_t listed, size_t 
 static int fits(const char *kind, uint64_t number, uint64_t value, uint64_t limit) {
     if (!strncmp(kind, "row-", 4)) return number == strtoull(kind + 4, NULL, 10);
     if (!strcmp(kind, "none")) return number == 23;
+    if (!strcmp(kind, "on-a-grid-point")) return number == 0;
     if (!strcmp(kind, "one-root") || !strcmp(kind, "two-crossings")) return number == 0 && value == 1;
     if (!strcmp(kind, "two-roots") || !strcmp(kind, "three-crossings")) return number == 0 && value == 2;
     if (!strcmp(kind, "found")) return number == 0 && value == 1 && expected[8] > 0.0;

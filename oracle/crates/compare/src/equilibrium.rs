@@ -85,9 +85,18 @@ fn some_mixture(r: &mut Random) -> Mixture {
     mixture
 }
 
+/// A target that a grid point's pressure meets exactly, so that both cells beside it have a crossing; else the one given.
+fn on_grid(r: &mut Random, mixture: &Mixture, t: f64, p: f64) -> f64 {
+    let met: Vec<f64> = upstream::grid_pressures(mixture, t).unwrap_or_default().into_iter().filter(|p| (1e5..=1e7).contains(p)).collect();
+    if met.is_empty() { p } else { r.pick(&met) }
+}
+
 pub fn roots(r: &mut Random) -> Case {
     let (mixture, mut t, mut p) =
         if r.one_in(8) { without_roots(r) } else { (some_mixture(r), r.between(230.0, 350.0), r.log_between(1e5, 1e7)) };
+    if r.one_in(8) {
+        p = on_grid(r, &mixture, t, p);
+    }
     if r.one_in(12) {
         t = near(r, &[230.0, 350.0]);
     }

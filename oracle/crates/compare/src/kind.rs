@@ -4,9 +4,10 @@ use crate::generate::{self, Random};
 use crate::upstream;
 use std::collections::BTreeMap;
 
-/// 200 root calls. `two-crossings`: one root kept and one dropped; `three-crossings`: two kept, and the one between them dropped.
-const ROOTS: [(&str, usize); 10] = [
-    ("one-root", 50), ("two-roots", 30), ("two-crossings", 20), ("three-crossings", 50), ("none", 20), ("row-3", 2), ("row-4", 2), ("row-20", 6),
+/// 200 root calls. `two-crossings`: one root kept and one dropped; `three-crossings`: two kept, and the one between them dropped; `on-a-grid-point`: a
+/// root found in both cells beside that point, and kept once.
+const ROOTS: [(&str, usize); 11] = [
+    ("one-root", 40), ("on-a-grid-point", 10), ("two-roots", 30), ("two-crossings", 20), ("three-crossings", 50), ("none", 20), ("row-3", 2), ("row-4", 2), ("row-20", 6),
     ("row-21", 10), ("row-24", 10),
 ];
 /// 60 saturations. `limit` and `middle-on-an-end` are the two ways to row 26.
@@ -18,10 +19,11 @@ const SATURATION: [(&str, usize); 10] = [
 fn kind(case: &Case, answer: &Answer) -> String {
     let named = match (&case.call, answer.number, answer.value) {
         (Call::Roots { t, p }, 0, roots) => match (roots, upstream::crossings(&case.mixture, *t, *p)) {
-            (1, 1) => "one-root",
-            (2, 2) => "two-roots",
-            (1, 2) => "two-crossings",
-            (2, 3) => "three-crossings",
+            (_, (_, true)) => "on-a-grid-point",
+            (1, (1, _)) => "one-root",
+            (2, (2, _)) => "two-roots",
+            (1, (2, _)) => "two-crossings",
+            (2, (3, _)) => "three-crossings",
             _ => "other",
         },
         (Call::Roots { .. }, 23, _) => "none",
@@ -38,9 +40,10 @@ fn kind(case: &Case, answer: &Answer) -> String {
 /// Prints a stored list: its maker, how many of each kind, then a line a call with its kind and the Rust's answer. Calls are drawn from the seed until
 /// every kind has its number; those of a kind that is full are left out.
 pub fn store(seed: u64, of: &str) {
-    let mut wanted: BTreeMap<&str, usize> = if of == "roots" { ROOTS.into() } else { SATURATION.into() };
+    let kinds: &[(&str, usize)] = if of == "roots" { &ROOTS } else { &SATURATION };
+    let mut wanted: BTreeMap<&str, usize> = kinds.iter().copied().collect();
     println!("# Made by tests/replay/make: the Rust of oracle/upstream over this library's elementary functions, data/gerg-2008.bin, seed {seed}.");
-    for (name, count) in if of == "roots" { ROOTS } else { SATURATION } {
+    for (name, count) in kinds {
         println!("# {name} {count}");
     }
     let mut random = Random::new(seed);

@@ -135,17 +135,30 @@ fn root_numbers(roots: &[GergFugacityState]) -> Vec<f64> {
     roots.iter().flat_map(one).collect()
 }
 
-/// How often the pressure rises through p on the grid of `gerg_outer_roots`, which says nothing of the crossings that it drops. For counting kinds only.
-pub fn crossings(mixture: &Mixture, t: f64, p: f64) -> usize {
-    let model = model(mixture).expect("an accepted mixture");
+/// The grid of `gerg_outer_roots`, which keeps it to itself; it chooses targets and counts kinds, and no answer is compared with it.
+fn grid() -> Vec<f64> {
     let logarithmic = (0..=128).map(|i| 0.001 * (f64::from(i) / 128.0 * (30000.0_f64 / 0.001).elementary_ln()).elementary_exp());
     let even = (0..=256).map(|i| 0.001 + f64::from(i) / 256.0 * (30000.0 - 0.001));
     let mut grid: Vec<f64> = logarithmic.chain(even).map(|rho| rho.clamp(0.001, 30000.0)).collect();
     grid.sort_by(f64::total_cmp);
     grid.dedup();
-    let off = |rho: &f64| rho * (GERG_GAS_CONSTANT * t) * (1.0 + model.helmholtz(Temperature::new(t).unwrap(), *rho).expect("a sample").ar_d) - p;
-    let off: Vec<f64> = grid.iter().map(off).collect();
-    off.windows(2).filter(|pair| pair[0] <= 0.0 && pair[1] >= 0.0).count()
+    grid
+}
+
+/// A sample's pressure at each grid point, where the mixture and all samples are accepted.
+pub fn grid_pressures(mixture: &Mixture, t: f64) -> Option<Vec<f64>> {
+    if table_refusal().or_else(|| mixture_refusal(mixture)).is_some() {
+        return None;
+    }
+    let model = model(mixture).ok()?;
+    let pressure = |rho: &f64| Some(rho * (GERG_GAS_CONSTANT * t) * (1.0 + model.helmholtz(Temperature::new(t).unwrap(), *rho).ok()?.ar_d));
+    grid().iter().map(pressure).collect()
+}
+
+/// How often the pressure rises through p on the grid, and whether a grid point meets it; the Rust says nothing of the crossings that it drops.
+pub fn crossings(mixture: &Mixture, t: f64, p: f64) -> (usize, bool) {
+    let pressures = grid_pressures(mixture, t).expect("accepted samples");
+    (pressures.windows(2).filter(|pair| pair[0] < p && pair[1] >= p).count(), pressures.contains(&p))
 }
 
 fn saturation_numbers(s: &PureSaturation) -> Vec<f64> {
