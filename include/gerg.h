@@ -116,7 +116,14 @@ enum gerg_state {
 };
 
 /* Places of one root; its coefficients follow, so a root has GERG_ROOT_PLACES + list_len doubles. */
-enum gerg_root { GERG_ROOT_DENSITY, GERG_ROOT_PRESSURE, GERG_ROOT_COMPRESSIBILITY, GERG_ROOT_GIBBS_ENERGY, GERG_ROOT_PLACES };
+enum gerg_root {
+    GERG_ROOT_DENSITY,         /* mol/m3 */
+    GERG_ROOT_PRESSURE,        /* Pa */
+    GERG_ROOT_COMPRESSIBILITY,
+    GERG_ROOT_GIBBS_ENERGY,    /* J/mol */
+    GERG_ROOT_PLACES,
+    GERG_MOST_ROOTS = 385      /* one between two neighbours of the grid, which has 386 densities at most */
+};
 
 /* Places of `out` of gerg_pure_saturation. */
 enum gerg_saturation {
@@ -146,12 +153,13 @@ uint64_t gerg_density(const uint8_t *file, size_t file_len, const uint8_t *list,
                       double t, double target, double lo, double hi, uint64_t limit, double tolerance, double out[GERG_DENSITY_PLACES]);
 
 /* Densities at which the pressure is p, outside the unstable region seen on a grid of densities, rising. Components 1 to 5 only,
- * T in 230..350, p in 1e5..1e7. Value: the number of roots; where `out` is too short it is refused with the doubles needed as the value. */
+ * T in 230..350, p in 1e5..1e7. Value: the number of roots; where `out` is too short it is refused with the doubles needed as the value.
+ * Doubles of `out` past the roots stay. */
 uint64_t gerg_outer_roots(const uint8_t *file, size_t file_len, const uint8_t *list, size_t list_len, const double *fractions, size_t fractions_len,
                           double t, double p, double *out, size_t out_len);
 
-/* The temperature in [lo, hi] at which a pure fluid's outermost roots have one fugacity. One positive fraction, components 1 to 5 only.
- * Value: 1 found; 0 where [lo, hi] does not enclose it, and then `out` is as it was. */
+/* The temperature in [lo, hi] at which a pure fluid's outermost roots have one fugacity. One positive fraction, components 1 to 5 only,
+ * 230 <= lo < hi <= 350, p in 1e5..1e7. Value: 1 found; 0 where [lo, hi] does not enclose it, and then `out` is as it was. */
 uint64_t gerg_pure_saturation(const uint8_t *file, size_t file_len, const uint8_t *list, size_t list_len, const double *fractions, size_t fractions_len,
                               double p, double lo, double hi, uint64_t limit, double out[GERG_SATURATION_PLACES]);
 

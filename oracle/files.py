@@ -5,6 +5,9 @@ nonfinite: NaN and infinite coefficients where no row refuses them (n0i, th0i, n
 exponents: coik, doik and dijk over all bytes
 none, ten: 0 and 10 departure functions, with zero terms in some
 empty: no terms at all
+steep: some noik up to 10^7 times as large, of either sign, so that isotherms rise steeply (row 22) and fall often
+huge: some n0i so large that an energy overflows and no derivative does (row 12)
+reducing: some gtij and gvij that are zero, negative or huge, some btij and bvij that are tiny or huge (row 5)
 table: one fault of row 2
 """
 import os
@@ -77,6 +80,30 @@ def empty(found):
     return kept
 
 
+def steep(r, found):
+    for record in found:
+        if record[0] == 3 and r.random() < 0.1:
+            factor = r.choice([-1.0, 1.0]) * 10.0 ** r.uniform(0, 7)
+            put(record, 5, struct.unpack("<d", record[5:13])[0] * factor)
+    return found
+
+
+def huge(r, found):
+    for record in found:
+        if record[0] == 2 and r.random() < 0.3:
+            put(record, 20 + 8 * r.randrange(3), r.choice([-1.0, 1.0]) * 10.0 ** r.uniform(303, 308))
+    return found
+
+
+def reducing(r, found):
+    for record in found:
+        if record[0] == 4 and r.random() < 0.05:
+            put(record, r.choice([19, 27]), r.choice([0.0, -1.0, 1e308, -1e308, 5e-324]))
+        if record[0] == 4 and r.random() < 0.05:
+            put(record, r.choice([3, 11]), r.choice([5e-324, 1e-300, 1e300, 1e308]))
+    return found
+
+
 def table(r, found):
     pairs = [record for record in found if record[0] == 4]
     cause = r.randrange(8)
@@ -104,6 +131,9 @@ def main(words):
         "ten": functions(r, records(data), 10),
         "empty": empty(records(data)),
         "table": table(r, records(data)),
+        "steep": steep(r, records(data)),
+        "huge": huge(r, records(data)),
+        "reducing": reducing(r, records(data)),
     }
     for name, found in made.items():
         path = os.path.join(folder, name + ".bin")

@@ -129,6 +129,7 @@ _EXPORTS = {
     "gerg_outer_roots": [_F, _F, _DOUBLES, _LENGTH],
     "gerg_pure_saturation": [_F, _F, _F, _N, _DOUBLES],
 }
+_MOST_ROOTS = 385  # one between two neighbours of the grid, which has 386 densities at most
 _loaded = {}
 
 
@@ -152,11 +153,6 @@ def _export(name):
         export.argtypes, export.restype = _MIXTURE + _EXPORTS[name], ctypes.c_uint64
         _loaded[name] = export
     return _loaded[name]
-
-
-def has_export(name):
-    """Whether the archive has an export, as "gerg_density". Calling one that is absent raises AttributeError."""
-    return hasattr(ctypes.CDLL(_shared_library()), name)
 
 
 def read(path=DEFAULT_FILE):
@@ -223,14 +219,8 @@ def density(file, mixture, t, target, lo, hi, limit=100, tolerance=1e-10):
 def outer_roots(file, mixture, t, p):
     """The exterior Roots seen on the grid, densities rising."""
     places = 4 + len(mixture)
-    out = (ctypes.c_double * (4 * places))()
-    try:
-        count = _call("gerg_outer_roots", file, mixture, t, p, out, len(out))
-    except Refusal as refusal:
-        if refusal.number != 24:
-            raise
-        out = (ctypes.c_double * refusal.value)()
-        count = _call("gerg_outer_roots", file, mixture, t, p, out, len(out))
+    out = (ctypes.c_double * (_MOST_ROOTS * places))()
+    count = _call("gerg_outer_roots", file, mixture, t, p, out, len(out))
     rows = [out[k * places : (k + 1) * places] for k in range(count)]
     return [Root(*row[:4], tuple(row[4:])) for row in rows]
 

@@ -89,19 +89,15 @@ fn calls(file: &[u8], count: usize) -> Vec<Line> {
         line("fugacity", file, gas, &|| gerg::fugacity(file, gas, T, RHO).unwrap()[0], &|m| {
             m.fugacity(kelvin(T), RHO).unwrap().ln_fugacity_coefficients[0]
         }),
-    ];
-    if gerg::has_export("gerg_density") {
-        lines.push(line("density", file, gas, &|| gerg::density(file, gas, T, P, search).unwrap().state.molar_density, &|m| {
+        line("density", file, gas, &|| gerg::density(file, gas, T, P, search).unwrap().state.molar_density, &|m| {
             gerg_density(m, kelvin(T), pascal(P), options).unwrap().state.molar_density
-        }));
-    }
-    if count <= 5 && gerg::has_export("gerg_outer_roots") {
+        }),
+    ];
+    if count <= 5 {
+        let pure = &only(Component::Propane, count);
         lines.push(line("roots", file, gas, &|| gerg::outer_roots(file, gas, T, P).unwrap()[0].molar_density, &|m| {
             gerg_outer_roots(m, kelvin(T), pascal(P)).unwrap()[0].state.molar_density
         }));
-    }
-    if count <= 5 && gerg::has_export("gerg_pure_saturation") {
-        let pure = &only(Component::Propane, count);
         lines.push(line("saturation", file, pure, &|| gerg::pure_saturation(file, pure, 5e5, [250.0, 300.0], 100).unwrap().unwrap().temperature, &|m| {
             pure_saturation(m, pascal(5e5), 250.0, 300.0, 100).unwrap().unwrap().temperature_k
         }));

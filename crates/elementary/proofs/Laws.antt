@@ -14,7 +14,7 @@ use Rattle.numerics.specs.Finite.{eq-self, round-number}
 use Rattle.numerics.specs.Nonneg.{nonneg}
 use Rattle.elementary.specs.Exp.{expOf, most}
 use Rattle.elementary.specs.ExpDistance.{exp-tight}
-use Rattle.elementary.specs.Power.{powfOf, powiOf, powerOf, greatest, positiveFinite, power-ends}
+use Rattle.elementary.specs.Power.{powfOf, powfFrom, powiOf, powerOf, greatest, positiveFinite, power-ends}
 use Rattle.elementary.specs.Ln.{lnOf}
 use Rattle.elementary.specs.LnDistanceDouble.{ln-near}
 use Rattle.elementary.specs.Sqrt.{withDigit, rootOf, nearestRoot, shiftOf, significandOf, exponentOf, rootBits, sqrtOf}
@@ -200,12 +200,12 @@ sqrt-not-negative x f e = go (positiveFinite x) refl (eq x +0 || lt greatest x) 
 -- ---- powf
 -- "1 for exponent 0"
 pub powf-zero : (x t : Float) → eq t +0 ≡ true → powfOf x t ≡ one
-unfolding powfOf
+unfolding powfOf powfFrom
 powf-zero x t e = rw e
 
 -- "else exp(t × ln x) for x positive and finite"
 pub powf-positive : (x t : Float) → eq t +0 ≡ false → positiveFinite x ≡ true → powfOf x t ≡ expOf (mul binary64 t (lnOf x))
-unfolding powfOf
+unfolding powfOf powfFrom
 powf-positive x t e p = rw (e, p)
 
 one-number : isNan one ≡ false
@@ -225,7 +225,7 @@ exp-unless x n = go (isNan x) refl
 
 -- its answer is not negative unless it is a NaN
 pub powf-not-negative : (x t : Float) → isNan (powfOf x t) ≡ false → le +0 (powfOf x t) ≡ true
-unfolding powfOf
+unfolding powfOf powfFrom
 powf-not-negative x t = go (eq t +0) (positiveFinite x)
   where
     go : (a b : Bool) → isNan (pick a one (pick b (expOf (mul binary64 t (lnOf x))) nan)) ≡ false → le +0 (pick a one (pick b (expOf (mul binary64 t (lnOf x))) nan)) ≡ true
@@ -243,7 +243,7 @@ finite-product (fin s m d) (fin t n c) p q = round-number binary64 (unlike s t) 
 
 -- it is no NaN for x positive and finite and t finite
 pub powf-number : (x t : Float) → T (fits binary64 x) → positiveFinite x ≡ true → T (finite t) → isNan (powfOf x t) ≡ false
-unfolding powfOf
+unfolding powfOf powfFrom
 powf-number x t f e g = rw e (go (eq t +0))
   where
     go : (b : Bool) → isNan (pick b one (expOf (mul binary64 t (lnOf x)))) ≡ false

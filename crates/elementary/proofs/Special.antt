@@ -9,7 +9,7 @@ use lib.Dec.{T, ltb→lt}
 use lib.Ieee.{Float, nan, inf, fin, up, down, lt, le, eq, ne, neg, add, sub, mul, div, ofBits}
 use Rattle.numerics.specs.Double.{+0, one}
 use Rattle.elementary.specs.Exp.{expOf}
-use Rattle.elementary.specs.Power.{powfOf, positiveFinite}
+use Rattle.elementary.specs.Power.{powfOf, powfFrom, positiveFinite}
 use Rattle.elementary.specs.Hyperbolic.{sinhOf, coshOf, tanhOf}
 use Rattle.elementary.specs.Sqrt.{sqrtOf}
 
@@ -98,5 +98,5 @@ sqrt-negative (fin true m d) e =
     rw (ne-eqb (m * up d * 1) (0 * 1 * down d) (λ k. omega arith))
 
 pub powf-else : (x t : Float) → eq t +0 ≡ false → positiveFinite x ≡ false → powfOf x t ≡ nan
-unfolding powfOf
+unfolding powfOf powfFrom
 powf-else x t e p = rw (e, p)

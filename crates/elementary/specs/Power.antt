@@ -1,6 +1,6 @@
 -- powf and powi.
 use mathlib.Core.Bool.{Bool, cond, _&&_}
-use mathlib.Core.Path.{_≡_, refl, sym, _∙_}
+use mathlib.Core.Path.{_≡_, refl, sym, ap, _∙_}
 use Prim.Native.Nat.{ℕ, zero, suc, _-_, _*_, _%_, _/_, _^_, _<_}
 use native.Mathlib.Omega.{arith}
 use native.Mathlib.Nat.{pow-suc}
@@ -19,9 +19,18 @@ greatest = bits 0x7fef_ffff_ffff_ffff
 abbrev pub positiveFinite : Float → Bool
 positiveFinite x = lt +0 x && le x greatest
 
--- "1 for exponent 0, else exp(t × ln x) for x positive and finite"; "all else gives NaN"
+-- "1 for exponent 0, else exp(t × ln x) for x positive and finite"; "all else gives NaN": l stands in the place of ln x
+unfoldable pub powfFrom : Float → Float → Float → Float
+powfFrom x l t = pick (eq t +0) one (pick (positiveFinite x) (expOf (t ⊗ l)) nan)
+
+-- with ln x itself
 unfoldable pub powfOf : Float → Float → Float
-powfOf x t = pick (eq t +0) one (pick (positiveFinite x) (expOf (t ⊗ lnOf x)) nan)
+powfOf x t = powfFrom x (lnOf x) t
+
+-- with the logarithm of x at hand it is powf: powfFrom x (lnOf x) t ≡ powfOf x t
+pub powf-from-ln : (x l t : Float) → l ≡ lnOf x → powfFrom x l t ≡ powfOf x t
+unfolding powfOf
+powf-from-ln x l t e = ap (λ (k : Float). powfFrom x k t) e
 
 -- "for each binary digit of |n| from the lowest, r = r × b where it is 1, then b = b × b", with so many digits of n left
 unfoldable pub powerFrom : ℕ → Float → Float → ℕ → Float

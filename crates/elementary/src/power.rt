@@ -3,8 +3,7 @@
 ghost use mathlib.Core.Path.{_≡_};
 ghost use lib.IntN.{natAbs};
 ghost use lib.Ieee.{ofInt, binary64};
-ghost use Rattle.elementary.specs.Ln.{lnOf};
-ghost use Rattle.elementary.specs.Power.{powfOf, powerOf, powiOf, signedOf};
+ghost use Rattle.elementary.specs.Power.{powfOf, powfFrom, powerOf, powiOf, signedOf};
 use crate::exp;
 use crate::ln;
 
@@ -15,10 +14,9 @@ pub fn powf(x: f64, t: f64) -> f64
     powf_of_ln(x, ln::ln(x), t)
 }
 
-// x to the power t with the logarithm of x at hand, so that a loop over t takes it once.
+// x to the power t where l is the logarithm of x, so that a loop over t takes it once.
 pub fn powf_of_ln(x: f64, l: f64, t: f64) -> f64
-    requires { ⌜ l ≡ lnOf x ⌝ }
-    ensures { λ r. ⌜ r ≡ powfOf x t ⌝ }
+    ensures { λ r. ⌜ r ≡ powfFrom x l t ⌝ }
 {
     if t == 0.0 {
         return 1.0;

@@ -16,6 +16,7 @@ use Rattle.elementary.specs.Hyperbolic.{sinhOf, coshOf, tanhOf}
 use Rattle.gerg_tables.specs.declared.Tables.{Tables}
 use Rattle.gerg_tables.specs.Tables.{n0i, th0i, noik, toik, fij, cijk, eijk, gijk, nijk, tijk, kpol, kexp, coik, doik, mNumb, kpolij, kexpij, dijk}
 use Rattle.gerg_model.specs.declared.GergModel.{GergModel}
+use Rattle.gerg_model.specs.Mixture.{thousand}
 use Rattle.gerg.specs.declared.Range.{Range}
 use Rattle.gerg.specs.declared.derivatives.GergDerivatives.{GergDerivatives}
 use Rattle.gerg.specs.declared.helmholtz.HelmholtzAnswer.{HelmholtzAnswer}
@@ -88,10 +89,6 @@ idealTaken value slope curvature a = record {
   «a0_t» = a .«a0_t» ⊖ slope;
   «a0_tt» = a .«a0_tt» ⊖ curvature;
 }
-
--- 1000.0
-abbrev pub thousand : Float
-thousand = bits 0x408f_4000_0000_0000
 
 -- the logarithms and n0i 1 to 3 of component i
 unfoldable pub idealBase : List Float → Float → Float → Float → ℕ → GergDerivatives → GergDerivatives

@@ -15,6 +15,7 @@ ghost use Prim.Native.Nat.{_<_};
 ghost use Rattle.numerics.specs.Double.{_⊘_};
 ghost use Rattle.elementary.specs.Ln.{lnOf};
 ghost use Rattle.gerg_tables.specs.Tables.{tables, Shaped};
+ghost use Rattle.gerg_model.specs.Mixture.{thousand};
 ghost use Rattle.gerg.specs.Derivatives.{zeroDerivatives};
 ghost use Rattle.gerg.specs.Helmholtz as is;
 ghost use Rattle.gerg.specs.HelmholtzPowers.{powersOf};
@@ -43,7 +44,7 @@ fn component<'a>(
     tau: f64,
     i: usize,
 ) -> GergDerivatives
-    requires { ⌜ (i < 21) × Shaped (tables (now doubles) (now integers)) × (now small ≡ powersOf delta) × (logarithm ≡ lnOf delta) × («density_logarithm» ≡ lnOf (rho ⊘ is.thousand))
+    requires { ⌜ (i < 21) × Shaped (tables (now doubles) (now integers)) × (now small ≡ powersOf delta) × (logarithm ≡ lnOf delta) × («density_logarithm» ≡ lnOf (rho ⊘ thousand))
         × Rows (tables (now doubles) (now integers)) (now x) temperature tau (now isotherm) ⌝ }
     ensures { λ r. ⌜ r ≡ is.component (tables (now (doubles .entry)) (now (integers .entry))) (now (x .entry)) temperature rho delta tau i a ⌝ }
 {
@@ -102,7 +103,7 @@ fn components<'a>(
     logarithm: f64,
     tau: f64,
 ) -> GergDerivatives
-    requires { ⌜ Shaped (tables (now doubles) (now integers)) × (now small ≡ powersOf delta) × (logarithm ≡ lnOf delta) × («density_logarithm» ≡ lnOf (rho ⊘ is.thousand))
+    requires { ⌜ Shaped (tables (now doubles) (now integers)) × (now small ≡ powersOf delta) × (logarithm ≡ lnOf delta) × («density_logarithm» ≡ lnOf (rho ⊘ thousand))
         × Rows (tables (now doubles) (now integers)) (now x) temperature tau (now isotherm) ⌝ }
     ensures { λ r. ⌜ r ≡ is.componentsOf (tables (now (doubles .entry)) (now (integers .entry))) (now (x .entry)) temperature rho delta tau a ⌝ }
 {

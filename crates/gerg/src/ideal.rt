@@ -8,6 +8,7 @@ ghost use lib.ListN.{getD};
 ghost use Rattle.numerics.specs.Double.{_⊘_, +0};
 ghost use Rattle.elementary.specs.Ln.{lnOf};
 ghost use Rattle.gerg_tables.specs.Tables as named;
+ghost use Rattle.gerg_model.specs.Mixture.{thousand};
 ghost use Rattle.gerg.specs.Helmholtz as is;
 ghost use Rattle.gerg.specs.Isotherm as cells;
 ghost use Rattle.gerg.specs.IsothermLaws.{Row, PartRow, IdealRows};
@@ -43,7 +44,7 @@ fn ideal_base<'a>(
     logarithm: f64,
     i: usize,
 ) -> GergDerivatives
-    requires { ⌜ (i < 21) × (logarithm ≡ lnOf (rho ⊘ is.thousand)) × Row (cells.baseCell (now doubles) x temperature i) (624 + 15 * i) 3 (now isotherm) ⌝ }
+    requires { ⌜ (i < 21) × (logarithm ≡ lnOf (rho ⊘ thousand)) × Row (cells.baseCell (now doubles) x temperature i) (624 + 15 * i) 3 (now isotherm) ⌝ }
     ensures { λ r. ⌜ r ≡ is.idealBase (now (doubles .entry)) x temperature rho i a ⌝ }
 {
     let n1 = named::n0i(doubles, i, 0);
@@ -110,7 +111,7 @@ pub fn ideal_part<'a>(
     logarithm: f64,
     i: usize,
 ) -> GergDerivatives
-    requires { ⌜ (i < 21) × (logarithm ≡ lnOf (rho ⊘ is.thousand)) × IdealRows (now doubles) x temperature i (now isotherm) ⌝ }
+    requires { ⌜ (i < 21) × (logarithm ≡ lnOf (rho ⊘ thousand)) × IdealRows (now doubles) x temperature i (now isotherm) ⌝ }
     ensures { λ r. ⌜ r ≡ is.idealPart (now (doubles .entry)) x temperature rho i a ⌝ }
 {
     let base = ideal_base(a, doubles, isotherm, x, temperature, rho, logarithm, i);

@@ -22,7 +22,8 @@ use Rattle.gerg_api.specs.Mixed.{refusedMixture, soundMixture, reducedMi
 use Rattle.gerg_density.specs.declared.DensityAnswer.{DensityAnswer}
 use Rattle.gerg_flash.specs.declared.RootsAnswer.{RootsAnswer}
 use Rattle.gerg_api.specs.Calls.{afterRows, memoryRows, searchedAfter}
-use Rattle.gerg_api.specs.Equilibrium.{rootsAfter}
+use Rattle.gerg_ph.specs.declared.SaturationAnswer.{SaturationAnswer}
+use Rattle.gerg_api.specs.Equilibrium.{rootsAfter, saturationAfter}
 use Rattle.gerg_api.specs.declared.PropertiesAnswer.{PropertiesAnswer}
 use Rattle.gerg_api.specs.declared.Mixed.{Mixed}
 use Rattle.gerg_api.specs.declared.Refusal.{Refusal}
@@ -111,3 +112,7 @@ search-nothing r later e = rw e
 pub roots-nothing : (r : Refusal) (later : RootsAnswer) → r ≡ Nothing → rootsAfter r later ≡ later
 unfolding rootsAfter
 roots-nothing r later e = rw e
+
+pub saturation-nothing : (r : Refusal) (later : SaturationAnswer) → r ≡ Nothing → saturationAfter r later ≡ later
+unfolding saturationAfter
+saturation-nothing r later e = rw e

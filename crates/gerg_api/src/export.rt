@@ -4,10 +4,13 @@ use crate::density;
 use crate::fugacity;
 use crate::properties;
 use crate::roots;
+use crate::saturation;
 use gerg::GergState;
 use gerg_density::DensityAnswer;
 use gerg_density::DensityResult;
 use gerg_flash::RootsAnswer;
+use gerg_ph::PureSaturation;
+use gerg_ph::SaturationAnswer;
 ghost use mathlib.Core.Path.{_≡_};
 ghost use Rattle.gerg_density.specs.Density.{optionsOf};
 ghost use Rattle.gerg_api.specs.Calls as is;
@@ -228,4 +231,66 @@ pub extern "C" fn gerg_outer_roots(
 {
     let answer = roots::outer_roots(file, list, fractions, t, p, out);
     roots_code(answer)
+}
+
+fn saturation_code(answer: SaturationAnswer) -> u64
+    ensures { λ r. ⌜ r ≡ equilibrium.saturationCode answer ⌝ }
+{
+    match answer {
+        SaturationAnswer::Found(_) => code(0, 1),
+        SaturationAnswer::NotEnclosed => code(0, 0),
+        SaturationAnswer::Refused { number, value } => code(number, value),
+    }
+}
+
+// The nine numbers of a saturation.
+fn saturation_numbers(s: PureSaturation) -> [f64; 9]
+    ensures { λ n. ⌜ n ≡ equilibrium.saturationNumbers s ⌝ }
+{
+    let iterations = std::num::nearest_u64_to_f64(s.iterations as u64);
+    [
+        s.temperature_k,
+        s.pressure_pa,
+        s.liquid_compressibility,
+        s.vapor_compressibility,
+        s.liquid_molar_volume,
+        s.vapor_molar_volume,
+        s.ln_fugacity_coefficient,
+        s.fugacity_residual,
+        iterations,
+    ]
+}
+
+fn put_saturation(answer: SaturationAnswer, out: &mut [f64; 9])
+    ensures { λ _. ⌜ now (out .exit) ≡ equilibrium.saturationWritten answer (now (out .entry)) ⌝ }
+{
+    match answer {
+        SaturationAnswer::Found(s) => {
+            *out = saturation_numbers(s);
+        }
+        SaturationAnswer::NotEnclosed => {}
+        SaturationAnswer::Refused {
+            number: _,
+            value: _,
+        } => {}
+    }
+}
+
+#[no_mangle]
+pub extern "C" fn gerg_pure_saturation(
+    file: &[u8],
+    list: &[u8],
+    fractions: &[f64],
+    p: f64,
+    lo: f64,
+    hi: f64,
+    limit: u64,
+    out: &mut [f64; 9],
+) -> u64
+    ensures answer { λ r. ⌜ r ≡ equilibrium.saturationCode (equilibrium.saturationCall (now (file .entry)) (now (list .entry)) (now (fractions .entry)) p lo hi limit) ⌝ }
+    ensures memory { λ r. ⌜ now (out .exit) ≡ equilibrium.saturationWritten (equilibrium.saturationCall (now (file .entry)) (now (list .entry)) (now (fractions .entry)) p lo hi limit) (now (out .entry)) ⌝ }
+{
+    let answer = saturation::pure_saturation(file, list, fractions, p, lo, hi, limit as usize);
+    put_saturation(answer, out);
+    saturation_code(answer)
 }

@@ -8,6 +8,7 @@ pub mod fugacity;
 pub mod properties;
 pub mod roots;
 pub mod rows;
+pub mod saturation;
 
 // Rows 1 to 5: nothing refused, or document 01's number and value.
 pub enum Refusal {

@@ -4,6 +4,7 @@ use crate::Refusal;
 use gerg_model::GergModel;
 use gerg_model::mixture;
 use gerg_model::mixture::MixtureCheck;
+use gerg_model::mixture::gradients;
 use gerg_tables::Answer;
 ghost use mathlib.Core.Path.{_≡_};
 ghost use Rattle.gerg_model.specs.MixtureCheck.{Accepted};
@@ -57,7 +58,7 @@ fn reduced_mixture(doubles: &[f64; 4086], list: &[u8], fractions: &[f64]) -> Mix
 {
     let model = mixture::model(doubles, list, fractions);
     let x = model.fractions;
-    let gradients = mixture::gradients(doubles, &x);
+    let gradients = gradients::gradients(doubles, &x);
     sound_mixture(model, &gradients)
 }
 

@@ -2,13 +2,10 @@
 use mathlib.Core.Bool.{Bool, not, _||_}
 use lib.Ieee.{Float, lt, le}
 use lib.Ieee.Scale.{finite}
-use Rattle.numerics.specs.Double.{_⊕_, _⊖_, _⊗_, _⊘_, bits, +0, one, two, pick}
+use Rattle.numerics.specs.Double.{_⊕_, _⊖_, _⊗_, _⊘_, +0, one, two, pick}
+use Rattle.gerg.specs.Evaluate.{gasConstant}
 use Rattle.gerg_density.specs.declared.Sample.{Sample}
 use Rattle.gerg_density.specs.declared.Sample.the-variants.{Residual, Stopped}
-
--- "R = 8.314472 everywhere"
-abbrev pub gasConstant : Float
-gasConstant = bits 0x4020_a102_7957_03f3
 
 -- "a trial is ρ × (R × T) × (1 + ar_d)"
 unfoldable pub trialPressure : Float → Float → Float → Float

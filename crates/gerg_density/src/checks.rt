@@ -1,17 +1,9 @@
 // What is tested before any density is tried (rows 13 and 14).
 
 use crate::Options;
+use gerg_model::mixture::is_finite;
 ghost use mathlib.Core.Path.{_≡_};
-ghost use lib.Ieee.Scale.{finite};
 ghost use Rattle.gerg_density.specs.Checks.{optionsRefused, targetRefused};
-
-// Whether x is neither an infinity nor a NaN: only then is x - x a number.
-pub fn is_finite(x: f64) -> bool
-    ensures { λ r. ⌜ r ≡ finite x ⌝ }
-{
-    let d = x - x;
-    d == d
-}
 
 // Row 13: the bracket, the limit or the tolerance.
 pub fn options_refused(o: Options) -> bool

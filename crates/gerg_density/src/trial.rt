@@ -1,22 +1,21 @@
 // The trial of a density, from the derivatives of the Helmholtz energy there.
 
 use crate::Sample;
-use crate::checks;
+use gerg::evaluate::GERG_GAS_CONSTANT;
+use gerg_model::mixture::is_finite;
 ghost use mathlib.Core.Path.{_≡_};
 ghost use Rattle.gerg_density.specs.Trial.{trialPressure, trialStiffness, scaleOf, sampleOf};
-
-const GAS_CONSTANT: f64 = 8.314472;
 
 pub fn pressure(temperature: f64, rho: f64, ar_d: f64) -> f64
     ensures { λ r. ⌜ r ≡ trialPressure temperature rho «ar_d» ⌝ }
 {
-    rho * (GAS_CONSTANT * temperature) * (1.0 + ar_d)
+    rho * (GERG_GAS_CONSTANT * temperature) * (1.0 + ar_d)
 }
 
 pub fn stiffness(temperature: f64, ar_d: f64, ar_dd: f64) -> f64
     ensures { λ r. ⌜ r ≡ trialStiffness temperature «ar_d» «ar_dd» ⌝ }
 {
-    GAS_CONSTANT * temperature * (1.0 + 2.0 * ar_d + ar_dd)
+    GERG_GAS_CONSTANT * temperature * (1.0 + 2.0 * ar_d + ar_dd)
 }
 
 // The larger of the target and 1 Pa.
@@ -33,7 +32,7 @@ pub fn scale(target: f64) -> f64
 pub fn sample(target: f64, p: f64, derivative: f64) -> Sample
     ensures { λ r. ⌜ r ≡ sampleOf target p derivative ⌝ }
 {
-    if !checks::is_finite(p) | !checks::is_finite(derivative) {
+    if !is_finite(p) | !is_finite(derivative) {
         return Sample::Stopped(12);
     }
     if derivative <= 0.0 {

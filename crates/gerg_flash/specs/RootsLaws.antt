@@ -3,6 +3,7 @@ use mathlib.Core.Bool.{true, false}
 use mathlib.Core.List.{List, []}
 use mathlib.Core.Path.{_≡_, refl, _∙_}
 use Prim.Native.Nat.{ℕ, zero, suc, _+_, _*_, _≤_, _<_}
+use native.Mathlib.Omega.{arith}
 use borrow.Author.Tests.{eq-eqb, ne-eqb, lt-ltb, le-ltb}
 use lib.Dec.{eqb, ltb}
 use lib.Ieee.{Float}
@@ -13,6 +14,7 @@ use Rattle.gerg_tables.specs.declared.Tables.{Tables}
 use Rattle.gerg_model.specs.declared.GergModel.{GergModel}
 use Rattle.gerg.specs.declared.Range.{Range}
 use Rattle.gerg_flash.specs.Roots as is
+use Rattle.gerg_flash.specs.RootsArrays.{Settles}
 use Rattle.gerg_flash.specs.Scan.{Scanned, scannedOf}
 use Rattle.gerg_flash.specs.declared.Scan.{Scan}
 use Rattle.gerg_flash.specs.declared.Settled.{Settled}
@@ -80,13 +82,18 @@ roots-memory m s h c a out e = rw e
 
 -- ---- from the scan
 module _ (root : Float → is.Outcome) (target : Float) (s : Scan) (d e : List Float) (whole : Scanned) (i : scannedOf s d e ≡ whole) where
-  pub search-refused : (m : GergModel) (lent : ℕ) → (s .refused ≡ 0 → ⊥) → is.answerOf m lent (is.foundOf root target whole) ≡ Refused (s .refused) 0
-  unfolding is.answerOf is.foundOf scannedOf
-  search-refused m lent n = let z : eqb (s .refused) 0 ≡ false = ne-eqb _ _ n in rw (← i, z, z)
+  pub search-refused : (h c : List (List Float)) → length h ≡ 386 → length c ≡ 386 → (s .refused ≡ 0 → ⊥) → Settles (is.foundOf root target whole) (record { count = 0; refused = s .refused }) h c
+  unfolding is.foundOf is.settledOf scannedOf
+  search-refused h c lh lc n =
+      let z : eqb (s .refused) 0 ≡ false = ne-eqb _ _ n in
+      record { is = rw (← i, z); most = omega arith; heads = lh; coefficients = lc }
 
-  pub search-found : s .refused ≡ 0 → is.keptOf root target (scannedOf s d e) ≡ is.foundOf root target whole
+  search-found : s .refused ≡ 0 → is.keptOf root target (scannedOf s d e) ≡ is.foundOf root target whole
   unfolding is.foundOf scannedOf
   search-found n = let z : eqb (s .refused) 0 ≡ true = eq-eqb _ _ n in rw (← i, z)
+
+  pub search-settled : (r : Settled) (h c : List (List Float)) → s .refused ≡ 0 → Settles (is.keptOf root target (scannedOf s d e)) r h c → Settles (is.foundOf root target whole) r h c
+  search-settled r h c n k = record { is = k .is ∙ search-found n; most = k .most; heads = k .heads; coefficients = k .coefficients }
 
 -- ---- rows 20 and 21
 module _ (t : Tables) (m : GergModel) (gradients : List (List Float)) (range : Range) (temperature target : Float) (lent : ℕ) where

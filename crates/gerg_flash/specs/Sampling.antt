@@ -1,19 +1,16 @@
 -- The sample of an isotherm at a density: `sample` of gerg_outer_roots.
 use lib.Ieee.{Float}
-use Rattle.numerics.specs.Double.{_⊕_, _⊖_, _⊗_, bits, one, two}
+use Rattle.numerics.specs.Double.{_⊕_, _⊖_, _⊗_, one, two}
 use Rattle.gerg_tables.specs.declared.Tables.{Tables}
 use Rattle.gerg_model.specs.declared.GergModel.{GergModel}
 use Rattle.gerg.specs.declared.Range.{Range}
 use Rattle.gerg.specs.declared.derivatives.GergDerivatives.{GergDerivatives}
 use Rattle.gerg.specs.declared.helmholtz.HelmholtzAnswer.{HelmholtzAnswer}
 use Rattle.gerg.specs.declared.helmholtz.HelmholtzAnswer.the-variants as derived
+use Rattle.gerg.specs.Evaluate.{gasConstant}
 use Rattle.gerg.specs.Helmholtz.{helmholtzOf}
 use Rattle.gerg_flash.specs.declared.Sample.{Sample}
 use Rattle.gerg_flash.specs.declared.Sample.the-variants.{Value, Refused}
-
--- "R = 8.314472 everywhere"
-abbrev pub gasConstant : Float
-gasConstant = bits 0x4020_a102_7957_03f3
 
 -- rho × rt × (1 + ar_d) − target, and rt × (1 + 2 ar_d + ar_dd), rt being R × T
 unfoldable pub sampleFrom : Float → Float → Float → GergDerivatives → Sample

@@ -15,9 +15,10 @@ ghost use lib.ListN.{length, take};
 ghost use Rattle.gerg_tables.specs.Tables.{tables, Shaped};
 ghost use Rattle.gerg_model.specs.Mixture.{Listed};
 ghost use Rattle.gerg_flash.specs.Roots as is;
+ghost use Rattle.gerg_flash.specs.RootsArrays.{Settles};
 
 // Row 20: a listed component that is not one of the first five.
-fn beyond_five(model: GergModel) -> bool
+pub fn beyond_five(model: GergModel) -> bool
     requires { ⌜ Listed model ⌝ }
     ensures { λ r. ⌜ r ≡ is.beyondFive model ⌝ }
 {
@@ -34,7 +35,7 @@ fn beyond_five(model: GergModel) -> bool
 }
 
 // Row 21.
-fn within_envelope(temperature: f64, pressure: f64) -> bool
+pub fn within_envelope(temperature: f64, pressure: f64) -> bool
     ensures { λ r. ⌜ r ≡ is.withinEnvelope temperature pressure ⌝ }
 {
     (230.0 <= temperature) & (temperature <= 350.0) & ((1e5 <= pressure) & (pressure <= 1e7))
@@ -118,8 +119,10 @@ fn finish(
     RootsAnswer::Roots(n)
 }
 
-// The scan, then its roots; the isotherm is worked out once.
-fn search<'a>(
+// The scan, then its roots, which stay in the fronts of two lent arrays; the isotherm is worked out once.
+pub fn exterior_roots<'a>(
+    heads: &mut [[f64; 4]; 386],
+    coefficients: &mut [[f64; 21]; 386],
     doubles: &'a [f64; 4086],
     integers: &'a [u8; 1631],
     gradients: &'a [[f64; 21]; 2],
@@ -127,12 +130,10 @@ fn search<'a>(
     range: Range,
     temperature: f64,
     pressure: f64,
-    out: &mut [f64],
-) -> RootsAnswer
-    requires { ⌜ Shaped (tables (now doubles) (now integers)) × Listed model ⌝ }
-    ensures answer { λ r. ⌜ r ≡ is.answerOf model (length (now (out .entry))) (is.searchedOf (tables (now (doubles .entry)) (now (integers .entry))) model (now (gradients .entry)) range temperature pressure) ⌝ }
-    ensures memory { λ r. ⌜ now (out .exit) ≡ is.memoryBy model (is.searchedOf (tables (now (doubles .entry)) (now (integers .entry))) model (now (gradients .entry)) range temperature pressure)
-        (is.answerOf model (length (now (out .entry))) (is.searchedOf (tables (now (doubles .entry)) (now (integers .entry))) model (now (gradients .entry)) range temperature pressure)) (now (out .entry)) ⌝ }
+) -> Settled
+    requires { ⌜ (length (now heads) ≡ 386) × (length (now coefficients) ≡ 386) × Shaped (tables (now doubles) (now integers)) × Listed model ⌝ }
+    ensures { λ r. ⌜ Settles (is.searchedOf (tables (now (doubles .entry)) (now (integers .entry))) model (now (gradients .entry)) range temperature pressure) r
+        (now (heads .exit)) (now (coefficients .exit)) ⌝ }
 {
     let cells = isotherm::isotherm(doubles, integers, model, temperature);
     let g = grid::grid();
@@ -153,19 +154,17 @@ fn search<'a>(
         pressure,
     );
     if s.refused != 0 {
-        return RootsAnswer::Refused {
-            number: s.refused,
-            value: 0,
+        return Settled {
+            count: 0,
+            refused: s.refused,
         };
     }
-    let mut heads = [[0.0; 4]; 386];
-    let mut coefficients = [[0.0; 21]; 386];
-    let t = settle::settle(
+    settle::settle(
         s,
         &densities,
         &residuals,
-        &mut heads,
-        &mut coefficients,
+        heads,
+        coefficients,
         doubles,
         integers,
         &cells,
@@ -174,8 +173,39 @@ fn search<'a>(
         range,
         temperature,
         pressure,
+    )
+}
+
+// The answer after rows 20 and 21.
+fn search<'a>(
+    doubles: &'a [f64; 4086],
+    integers: &'a [u8; 1631],
+    gradients: &'a [[f64; 21]; 2],
+    model: GergModel,
+    range: Range,
+    temperature: f64,
+    pressure: f64,
+    out: &mut [f64],
+) -> RootsAnswer
+    requires { ⌜ Shaped (tables (now doubles) (now integers)) × Listed model ⌝ }
+    ensures answer { λ r. ⌜ r ≡ is.answerOf model (length (now (out .entry))) (is.searchedOf (tables (now (doubles .entry)) (now (integers .entry))) model (now (gradients .entry)) range temperature pressure) ⌝ }
+    ensures memory { λ r. ⌜ now (out .exit) ≡ is.memoryBy model (is.searchedOf (tables (now (doubles .entry)) (now (integers .entry))) model (now (gradients .entry)) range temperature pressure)
+        (is.answerOf model (length (now (out .entry))) (is.searchedOf (tables (now (doubles .entry)) (now (integers .entry))) model (now (gradients .entry)) range temperature pressure)) (now (out .entry)) ⌝ }
+{
+    let mut heads = [[0.0; 4]; 386];
+    let mut coefficients = [[0.0; 21]; 386];
+    let s = exterior_roots(
+        &mut heads,
+        &mut coefficients,
+        doubles,
+        integers,
+        gradients,
+        model,
+        range,
+        temperature,
+        pressure,
     );
-    finish(t, &heads, &coefficients, model, out)
+    finish(s, &heads, &coefficients, model, out)
 }
 
 // The roots of the pressure on the two exterior branches. Each writes density, pressure, Z, Gibbs energy and its coefficients to `out`;

@@ -7,6 +7,7 @@ use crate::halve;
 use crate::scanning;
 use gerg::Range;
 use gerg::derivatives::GergDerivatives;
+use gerg::evaluate::GERG_GAS_CONSTANT;
 use gerg::helmholtz;
 use gerg::helmholtz::HelmholtzAnswer;
 use gerg_model::GergModel;
@@ -20,12 +21,10 @@ ghost use Rattle.gerg_flash.specs.Halving.{halvedOf, crossingOf};
 ghost use Rattle.gerg_flash.specs.Scan.{crossedOf, seenOf, scanStep, scanOf};
 ghost use Rattle.gerg_flash.specs.ScanArrays.{Stepped, Ended};
 
-const GAS_CONSTANT: f64 = 8.314472;
-
 fn sample_from(temperature: f64, target: f64, rho: f64, a: GergDerivatives) -> Sample
     ensures { λ r. ⌜ r ≡ sampleFrom temperature target rho a ⌝ }
 {
-    let rt = GAS_CONSTANT * temperature;
+    let rt = GERG_GAS_CONSTANT * temperature;
     Sample::Value(
         rho * rt * (1.0 + a.ar_d) - target,
         rt * (1.0 + 2.0 * a.ar_d + a.ar_dd),

@@ -1,19 +1,16 @@
 -- What a call works out once: powers of delta, damping factors, the logarithm of tau.
 use mathlib.Core.Bool.{Bool, true, false}
-use mathlib.Core.Logic.{⊎-elim}
-use Prim.Native.Nat.{ℕ, zero, suc, _≤_, _<_}
-use native.Mathlib.Nat.{eq-or-lt-of-le}
+use Prim.Native.Nat.{ℕ, _<_}
 use native.Mathlib.Omega.{arith}
 use borrow.Author.Tests.{lt-ltb}
 use lib.Dec.{ltb}
 use lib.Ieee.{Float, nan, neg}
-use lib.ListN.{length, getD, drop, replicate, List·getD-append}
-use lib.Seq.{getD-at}
-use Rattle.numerics.specs.Fill.{tabulate, length-tabulate, filled}
+use lib.ListN.{getD}
+use Rattle.numerics.specs.Fill.{tabulate, getD-tabulate}
 use Rattle.gerg_fugacity.specs.Fugacity.{dampingFactor}
 use Rattle.numerics.specs.Double.{+0, pick}
-use mathlib.Core.Path.{_≡_, refl, sym, ap, _∙_}
-use mathlib.Core.List.{List, [], _∷_, _++_, append-nil}
+use mathlib.Core.Path.{_≡_, ap, _∙_}
+use mathlib.Core.List.{List}
 use Rattle.elementary.specs.Exp.{expOf}
 use Rattle.elementary.specs.Ln.{lnOf}
 use Rattle.elementary.specs.Power.{powiByteOf}
@@ -27,34 +24,15 @@ pub record Worked (delta tau : Float) (powers : List Float) (logarithm : Float) 
   pub powers-are : powers ≡ tabulate (powiByteOf delta) 16
   pub logarithm-is : logarithm ≡ lnOf tau
 
--- what stands at each place of a table
-pub at-tabulate : {A : Type 0} (f : ℕ → A) (n k : ℕ) (d : A) → k < n → getD (tabulate f n) k d ≡ f k
-unfolding tabulate
-at-tabulate f zero k d h = absurd (omega arith)
-at-tabulate f (suc n) k d h =
-    let m : k ≤ n = omega arith in
-    ⊎-elim
-    (λ e. getD-at (tabulate f n) (f n) [] d k (length-tabulate f n ∙ sym e) ∙ ap f (sym e))
-    (λ l. List·getD-append (tabulate f n) (f n ∷ []) d k (rw length-tabulate l) ∙ at-tabulate f n k d l)
-    (eq-or-lt-of-le m)
-
-drop-replicate : {A : Type 0} (n : ℕ) (a : A) → drop n (replicate n a) ≡ []
-drop-replicate zero a = refl
-drop-replicate (suc n) a = drop-replicate n a
-
--- a table written over as many places
-pub fill-whole : {A : Type 0} (f : ℕ → A) (n : ℕ) (a : A) → filled f n (replicate n a) ≡ tabulate f n
-fill-whole {A} f n a = ap (λ (l : List A). tabulate f n ++ l) (drop-replicate n a) ∙ append-nil (tabulate f n)
-
 -- the powers and the damping factors at hand are those that the equation asks
 pub power-at : (delta : Float) (powers : List Float) (q : ℕ) → powers ≡ tabulate (powiByteOf delta) 16 → q < 16 → getD powers q nan ≡ powiByteOf delta q
-power-at delta powers q e h = ap (λ (l : List Float). getD l q nan) e ∙ at-tabulate (powiByteOf delta) 16 q nan h
+power-at delta powers q e h = ap (λ (l : List Float). getD l q nan) e ∙ getD-tabulate (powiByteOf delta) 16 q nan h
 
 pub damping-at : (delta : Float) (dampings : List Float) (q : ℕ) → dampings ≡ tabulate (dampingAt delta) 17 → q < 16 → getD dampings q nan ≡ dampingFactor delta true q
 unfolding dampingFactor dampingAt
 damping-at delta dampings q e h =
-    ap (λ (l : List Float). getD l q nan) e ∙ at-tabulate (dampingAt delta) 17 q nan (omega arith) ∙ rw (lt-ltb q 16 h)
+    ap (λ (l : List Float). getD l q nan) e ∙ getD-tabulate (dampingAt delta) 17 q nan (omega arith) ∙ rw (lt-ltb q 16 h)
 
 pub undamped-at : (delta : Float) (dampings : List Float) (c : ℕ) → dampings ≡ tabulate (dampingAt delta) 17 → getD dampings 16 nan ≡ dampingFactor delta false c
 unfolding dampingFactor dampingAt
-undamped-at delta dampings c e = ap (λ (l : List Float). getD l 16 nan) e ∙ at-tabulate (dampingAt delta) 17 16 nan (omega arith)
+undamped-at delta dampings c e = ap (λ (l : List Float). getD l 16 nan) e ∙ getD-tabulate (dampingAt delta) 17 16 nan (omega arith)

@@ -255,16 +255,16 @@ fn departure_pair(
     logarithm: f64,
     i: usize,
     j: usize,
-    g: [f64; 21],
-) -> [f64; 21]
+    g: &mut [f64; 21],
+)
     requires { ⌜ (i < j) × (j < 21) × Shaped (tables (now doubles) (now integers)) × Worked delta tau (now powers) logarithm ⌝ }
-    ensures { λ r. ⌜ r ≡ fug.departurePair (tables (now (doubles .entry)) (now (integers .entry))) (now (x .entry)) delta tau i j g ⌝ }
+    ensures { λ _. ⌜ now (g .exit) ≡ fug.departurePair (tables (now (doubles .entry)) (now (integers .entry))) (now (x .entry)) delta tau i j (now (g .entry)) ⌝ }
 {
     let xi = x[i];
     let xj = x[j];
     let number = wide(named::m_numb(integers, i, j));
     if (128 <= number) | ((xi == 0.0) & (xj == 0.0)) {
-        return g;
+        return;
     }
     let both = Both {
         first: g[i],
@@ -284,10 +284,8 @@ fn departure_pair(
         number - 1,
         both,
     );
-    let mut h = g;
-    h[i] = sum.first;
-    h[j] = sum.second;
-    h
+    g[i] = sum.first;
+    g[j] = sum.second;
 }
 
 fn composition_row(
@@ -300,10 +298,10 @@ fn composition_row(
     tau: f64,
     logarithm: f64,
     i: usize,
-    g: [f64; 21],
-) -> [f64; 21]
+    g: &mut [f64; 21],
+)
     requires { ⌜ (i < 21) × Shaped (tables (now doubles) (now integers)) × Worked delta tau (now powers) logarithm × (now dampings ≡ tabulate (dampingAt delta) 17) ⌝ }
-    ensures { λ r. ⌜ r ≡ fug.compositionRow (tables (now (doubles .entry)) (now (integers .entry))) (now (x .entry)) delta tau i g ⌝ }
+    ensures { λ _. ⌜ now (g .exit) ≡ fug.compositionRow (tables (now (doubles .entry)) (now (integers .entry))) (now (x .entry)) delta tau i (now (g .entry)) ⌝ }
 {
     let own = pure_terms(
         doubles,
@@ -316,13 +314,10 @@ fn composition_row(
         i,
         g[i],
     );
-    let mut h = g;
-    h[i] = own;
+    g[i] = own;
     for j in i + 1..21 {
-        let next = departure_pair(doubles, integers, powers, x, delta, tau, logarithm, i, j, h);
-        h = next;
+        departure_pair(doubles, integers, powers, x, delta, tau, logarithm, i, j, g);
     }
-    h
 }
 
 // The derivatives by mole fraction at fixed delta and tau.
@@ -341,7 +336,7 @@ pub fn composition(
     let logarithm = ln(tau);
     let mut h = [0.0; 21];
     for i in 0..21 {
-        let next = composition_row(
+        composition_row(
             doubles,
             integers,
             &powers,
@@ -351,9 +346,8 @@ pub fn composition(
             tau,
             logarithm,
             i,
-            h,
+            &mut h,
         );
-        h = next;
     }
     h
 }

@@ -25,17 +25,15 @@ fn through_reducing(
     gradients: &[[f64; 21]; 2],
     a: GergDerivatives,
     i: usize,
-    g: [f64; 21],
-) -> [f64; 21]
+    g: &mut [f64; 21],
+)
     requires { ⌜ i < 21 ⌝ }
-    ensures { λ r. ⌜ r ≡ fug.throughReducing model (now (gradients .entry)) a i g ⌝ }
+    ensures { λ _. ⌜ now (g .exit) ≡ fug.throughReducing model (now (gradients .entry)) a i (now (g .entry)) ⌝ }
 {
     let volume = 1000.0 / model.reducing_density;
-    let mut h = g;
-    h[i] = h[i]
+    g[i] = g[i]
         + (a.ar_d * gradients[0][i] / volume
             + a.ar_t * gradients[1][i] / model.reducing_temperature);
-    h
 }
 
 // The derivatives by mole fraction at temperature t and density rho.
@@ -56,8 +54,7 @@ fn molar_gradient(
     let x = model.fractions;
     let mut h = composition::composition(doubles, integers, &x, delta, tau);
     for i in 0..21 {
-        let next = through_reducing(model, gradients, a, i, h);
-        h = next;
+        through_reducing(model, gradients, a, i, &mut h);
     }
     h
 }

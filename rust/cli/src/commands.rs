@@ -10,17 +10,11 @@ use std::path::Path;
 
 const SATURATION_ENDS: [f64; 2] = [230.0, 350.0];
 const OUTPUT: [&str; 3] = ["--file", "--json", "--bits"];
-/// What a command needs of the archive beside `gerg_properties` and `gerg_fugacity`.
-const EXPORTS: [(&str, &str); 4] =
-    [("density", "gerg_density"), ("curve", "gerg_density"), ("roots", "gerg_outer_roots"), ("saturation", "gerg_pure_saturation")];
 
 pub fn run(words: &[String]) -> Result<String, Fault> {
     let Some((command, rest)) = words.split_first() else {
         return Err(Fault::usage("no command; see gerg --help"));
     };
-    if let Some((_, export)) = EXPORTS.iter().find(|(name, export)| name == command && !gerg::has_export(export)) {
-        return Err(Fault::usage(format!("{command}: the archive that this program was built with has no {export}")));
-    }
     let parse = |own: &[&str]| Arguments::parse(command, rest, &[own, &OUTPUT].concat());
     match command.as_str() {
         "--help" | "-h" | "help" => Ok(USAGE.to_string()),
@@ -183,8 +177,10 @@ fn search_rows(found: &Density) -> Vec<Row> {
     ]
 }
 
-fn upward() -> String {
-    format!("upward from a quarter of the ideal gas's density in steps of {} (no bracket given): ", lightest::STEP)
+/// How a bracket was had that was not given.
+fn upward([lo, hi]: [f64; 2]) -> String {
+    let how = format!("upward from a quarter of the ideal gas's density in steps of {} (no bracket given)", lightest::STEP);
+    format!("bracket {} .. {} mol/m³, {how}", decimal(lo), decimal(hi))
 }
 
 /// The state at --t and --rho, or at --t and --p; with how its density was had.
@@ -196,12 +192,10 @@ fn state_at(arguments: &Arguments, input: &Input) -> Result<(State, String, Opti
             let state = gerg::properties(&input.file, &input.mixture, t, rho).map_err(|r| input.refused(r, &asked, arguments))?;
             Ok((state, asked, None))
         }
-        (None, Some(_)) if !gerg::has_export("gerg_density") => Err(arguments.fault("--p: the archive that this program was built with has no gerg_density")),
         (None, Some(p)) => {
             let asked = format!("T = {} K, p = {} Pa", exact(t), exact(p));
             let found = lightest::density(&input.file, &input.mixture, t, p, LIMIT, TOLERANCE).map_err(|r| input.refused(r, &asked, arguments))?;
-            let [lo, hi] = found.first_bracket;
-            let how = format!("{}bracket {} .. {} mol/m³, limit {LIMIT}, tolerance {TOLERANCE:e}", upward(), decimal(lo), decimal(hi));
+            let how = format!("{}, limit {LIMIT}, tolerance {TOLERANCE:e}", upward(found.first_bracket));
             Ok((found.state, asked, Some(how)))
         }
         (Some(_), Some(_)) => Err(arguments.fault("--rho and --p are both given; one fixes the other")),
@@ -244,11 +238,8 @@ fn density(arguments: &Arguments) -> Result<String, Fault> {
     };
     let found = found.map_err(|r| input.refused(r, &asked, arguments))?;
     let default = |name| if arguments.text(name).is_some() { "" } else { " (the default)" };
-    let [lo, hi] = found.first_bracket;
-    let how = format!(
-        "{}bracket {} .. {} mol/m³, limit {limit}{}, tolerance {tolerance:e}{}",
-        if bracket.is_some() { String::new() } else { upward() }, decimal(lo), decimal(hi), default("--limit"), default("--tolerance"),
-    );
+    let bracket = bracket.map_or_else(|| upward(found.first_bracket), |[lo, hi]| format!("bracket {} .. {} mol/m³", exact(lo), exact(hi)));
+    let how = format!("{bracket}, limit {limit}{}, tolerance {tolerance:e}{}", default("--limit"), default("--tolerance"));
     let mut above = input.heading(asked);
     above.push(heading("how", "search", how));
     let mut groups = state_groups(arguments, &found.state);

@@ -6,6 +6,7 @@
 use crate::arguments::Arguments;
 use crate::commands::Input;
 use crate::format::exact;
+use crate::report::named;
 use crate::svg::{Panel, picture};
 use crate::{Fault, lightest};
 use gerg::{Refusal, State};
@@ -23,8 +24,7 @@ struct Point {
 
 fn point(input: &Input, t: f64, p: f64) -> Point {
     let (file, mixture) = (&input.file, &input.mixture);
-    let by_root = gerg::has_export("gerg_outer_roots") && mixture.components().iter().all(|each| each.has_roots())
-        && (230.0..=350.0).contains(&t) && (1e5..=1e7).contains(&p);
+    let by_root = mixture.components().iter().all(|each| each.has_roots()) && (230.0..=350.0).contains(&t) && (1e5..=1e7).contains(&p);
     if by_root {
         let roots = gerg::outer_roots(file, mixture, t, p);
         let count = roots.as_ref().map_or(0, Vec::len);
@@ -114,18 +114,18 @@ fn write(path: &str, text: &str) -> Result<(), Fault> {
 fn summary(input: &Input, isotherm: String, points: &[Point]) -> String {
     let by_root = points.iter().filter(|point| point.roots.is_some()).count();
     let several = points.iter().filter(|point| point.roots.is_some_and(|count| count > 1)).count();
-    let refusals: Vec<u32> = points.iter().filter_map(|point| point.state.err()).map(|refusal| refusal.number()).collect();
+    let refusals: Vec<String> = points.iter().filter_map(|point| point.state.err()).map(|refusal| refusal.number().to_string()).collect();
     let how = format!("by the lightest exterior root at {by_root} points, by the search upward at {}", points.len() - by_root);
     let mut lines = vec![("coefficients", input.coefficients()), ("mixture", input.described()), ("isotherm", isotherm), ("density", how)];
     if several > 0 {
-        lines.push(("roots", format!("{several} points have several: the lightest need not be the stable state")));
+        lines.push(("roots", format!("several at {several} points: the lightest need not be the stable state")));
     }
     if !refusals.is_empty() {
-        let numbers = std::collections::BTreeSet::from_iter(&refusals);
+        let numbers = Vec::from_iter(std::collections::BTreeSet::from_iter(refusals.iter().map(String::as_str))).join(", ");
         let left = "left out of the picture, without values in the CSV";
-        lines.push(("refused", format!("{} points, numbers {numbers:?}: {left}", refusals.len())));
+        lines.push(("refused", format!("{} of {} points (number {numbers}), {left}", refusals.len(), points.len())));
     }
-    lines.iter().map(|(name, text)| format!("{name:12}  {text}\n")).collect()
+    lines.iter().map(|(name, text)| named(name, 12, text)).collect()
 }
 
 pub fn run(arguments: &Arguments) -> Result<String, Fault> {
@@ -144,5 +144,5 @@ pub fn run(arguments: &Arguments) -> Result<String, Fault> {
     write(&csv_path, &csv(&points))?;
     write(&svg_path, &svg(&input, t, [from, to], &points))?;
     let isotherm = format!("T = {} K, {count} pressures from {} to {} Pa", exact(t), exact(from), exact(to));
-    Ok(summary(&input, isotherm, &points) + &format!("written       {csv_path}, {svg_path}\n"))
+    Ok(summary(&input, isotherm, &points) + &named("written", 12, &format!("{csv_path}, {svg_path}")))
 }

@@ -36,3 +36,20 @@ pub fn quoted(text: &str) -> String {
     out.push('"');
     out
 }
+
+/// Lines of at most so many characters, broken behind commas and semicolons, so that a name and its fraction stay together.
+pub fn wrapped(text: &str, most: usize) -> Vec<String> {
+    let mut lines = vec![String::new()];
+    for word in text.split_inclusive([',', ';']).map(str::trim) {
+        let full = lines.last().is_some_and(|line| !line.is_empty() && line.chars().count() + 1 + word.chars().count() > most);
+        if full {
+            lines.push(String::new());
+        }
+        let line = lines.last_mut().expect("a line");
+        if !line.is_empty() {
+            line.push(' ');
+        }
+        line.push_str(word);
+    }
+    lines
+}

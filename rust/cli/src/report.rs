@@ -1,5 +1,8 @@
 //! An answer as a table for a person or as JSON.
-use crate::format::{bits, decimal, exact, quoted};
+use crate::format::{bits, decimal, exact, quoted, wrapped};
+
+/// Characters of a heading's text in a line.
+const FIT: usize = 90;
 
 pub enum Value {
     Number(f64),
@@ -49,10 +52,16 @@ pub fn heading(key: &'static str, name: &'static str, text: String) -> Heading {
     Heading { key, name, json: quoted(&text), text }
 }
 
+/// A name and its text, long text in several lines.
+pub fn named(name: &str, width: usize, text: &str) -> String {
+    let below = format!("\n{:width$}  ", "");
+    format!("{name:width$}  {}\n", wrapped(text, FIT).join(&below))
+}
+
 impl Report {
     pub fn table(&self, as_bits: bool) -> String {
         let width = self.heading.iter().map(|line| line.name.len()).max().unwrap_or(0);
-        let mut out: String = self.heading.iter().map(|line| format!("{:width$}  {}\n", line.name, line.text)).collect();
+        let mut out: String = self.heading.iter().map(|line| named(line.name, width, &line.text)).collect();
         for group in &self.groups {
             out.push_str(&format!("\n{}\n", group.title));
             out.push_str(&lines(&group.rows, as_bits));

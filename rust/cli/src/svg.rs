@@ -1,4 +1,5 @@
 //! A picture of curves over pressure, panels below each other.
+use crate::format::wrapped;
 use std::fmt::Write;
 
 pub struct Panel {
@@ -8,9 +9,10 @@ pub struct Panel {
     pub lines: Vec<Vec<(f64, f64)>>,
 }
 
-const WIDTH: f64 = 880.0;
-const LEFT: f64 = 90.0;
-const RIGHT: f64 = 30.0;
+const WIDTH: f64 = 920.0;
+/// Room for a tick's text of nine characters beside the panel's label.
+const LEFT: f64 = 116.0;
+const RIGHT: f64 = 44.0;
 const PANEL: f64 = 300.0;
 const GAP: f64 = 40.0;
 const LINE: f64 = 16.0;
@@ -26,23 +28,6 @@ fn ticks(lo: f64, hi: f64, most: f64) -> (Vec<f64>, usize) {
     let (first, last) = ((lo / step).floor() as i64, (hi / step).ceil() as i64);
     let decimals = (-step.log10().floor()).max(0.0) as usize;
     ((first..=last).map(|k| k as f64 * step).collect(), decimals)
-}
-
-/// Broken behind commas, so that a name and its fraction stay together.
-fn wrapped(text: &str) -> Vec<String> {
-    let mut lines = vec![String::new()];
-    for word in text.split_inclusive([',', ';']).map(str::trim) {
-        let full = lines.last().is_some_and(|line| !line.is_empty() && line.chars().count() + 1 + word.chars().count() > FIT);
-        if full {
-            lines.push(String::new());
-        }
-        let line = lines.last_mut().expect("a line");
-        if !line.is_empty() {
-            line.push(' ');
-        }
-        line.push_str(word);
-    }
-    lines
 }
 
 fn escaped(text: &str) -> String {
@@ -103,7 +88,7 @@ fn panel(out: &mut String, panel: &Panel, top: f64, (p_ticks, p_decimals, x): (&
 
 /// `range`: the pressures that the axis covers, MPa.
 pub fn picture(title: &str, small: &str, range: [f64; 2], panels: &[Panel]) -> String {
-    let small = wrapped(small);
+    let small = wrapped(small, FIT);
     let head = 44.0 + LINE * small.len() as f64 + 12.0;
     let height = head + panels.len() as f64 * (PANEL + GAP) + 14.0;
     let mut out = String::new();

@@ -115,7 +115,7 @@ pub fn properties(file: &[u8], mixture: &Mixture, t: f64, rho: f64) -> Result<St
 /// use gerg::{Component::*, Mixture};
 /// let file = std::fs::read(gerg::DEFAULT_FILE).unwrap();
 /// let ln_phi = gerg::fugacity(&file, &Mixture::new([(Methane, 1.0), (Propane, 0.0)]), 300.0, 40.0).unwrap();
-/// assert_eq!(ln_phi.len(), 2);
+/// assert!(ln_phi[1] < ln_phi[0] && ln_phi[0] < 0.0);
 /// ```
 pub fn fugacity(file: &[u8], mixture: &Mixture, t: f64, rho: f64) -> Result<Vec<f64>, Refusal> {
     let mut out = vec![0.0; mixture.components().len()];
@@ -157,7 +157,6 @@ pub struct Density {
 /// The density in a bracket at which the pressure is the target (Pa). Which of several roots is found follows from the bracket.
 ///
 /// ```
-/// # if !gerg::has_export("gerg_density") { return }
 /// use gerg::{Component::Methane, Mixture, Search};
 /// let file = std::fs::read(gerg::DEFAULT_FILE).unwrap();
 /// let found = gerg::density(&file, &Mixture::new([(Methane, 1.0)]), 300.0, 1e6, Search::between(100.0, 1000.0)).unwrap();
@@ -184,11 +183,13 @@ pub struct Root {
     pub ln_fugacity_coefficients: Vec<f64>,
 }
 
+/// One between two neighbours of the grid, which has 386 densities at most.
+const MOST_ROOTS: usize = 385;
+
 /// The exterior roots at a temperature and a pressure, densities rising. Methane, nitrogen, carbon dioxide, ethane and propane only,
 /// 230 to 350 K, 0.1 to 10 MPa. The roots are those seen on a grid: that there are no more is not claimed.
 ///
 /// ```
-/// # if !gerg::has_export("gerg_outer_roots") { return }
 /// use gerg::{Component::Propane, Mixture};
 /// let file = std::fs::read(gerg::DEFAULT_FILE).unwrap();
 /// let roots = gerg::outer_roots(&file, &Mixture::new([(Propane, 1.0)]), 270.0, 4e5).unwrap();
@@ -196,12 +197,8 @@ pub struct Root {
 /// ```
 pub fn outer_roots(file: &[u8], mixture: &Mixture, t: f64, p: f64) -> Result<Vec<Root>, Refusal> {
     let places = 4 + mixture.components().len();
-    let mut out = vec![0.0; 4 * places];
-    let mut answer = Refusal::answered(exports::outer_roots(file, mixture, t, p, &mut out));
-    if let Err(Refusal { cause: Cause::OutTooShort, value }) = answer {
-        out = vec![0.0; value as usize];
-        answer = Refusal::answered(exports::outer_roots(file, mixture, t, p, &mut out));
-    }
+    let mut out = vec![0.0; MOST_ROOTS * places];
+    let count = Refusal::answered(exports::outer_roots(file, mixture, t, p, &mut out))? as usize;
     let root = |n: &[f64]| Root {
         molar_density: n[0],
         pressure: n[1],
@@ -209,7 +206,7 @@ pub fn outer_roots(file: &[u8], mixture: &Mixture, t: f64, p: f64) -> Result<Vec
         gibbs_energy: n[3],
         ln_fugacity_coefficients: n[4..].to_vec(),
     };
-    Ok(out.chunks_exact(places).take(answer? as usize).map(root).collect())
+    Ok(out.chunks_exact(places).take(count).map(root).collect())
 }
 
 /// Two roots of a pure fluid with one fugacity.
@@ -235,7 +232,6 @@ pub struct Saturation {
 /// do not enclose it.
 ///
 /// ```
-/// # if !gerg::has_export("gerg_pure_saturation") { return }
 /// use gerg::{Component::Propane, Mixture};
 /// let file = std::fs::read(gerg::DEFAULT_FILE).unwrap();
 /// let found = gerg::pure_saturation(&file, &Mixture::new([(Propane, 1.0)]), 5e5, [250.0, 300.0], 100).unwrap().unwrap();

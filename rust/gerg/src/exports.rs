@@ -1,33 +1,28 @@
 //! The archive's exports, as include/gerg.h has them, behind one function each that takes slices.
 use crate::{Mixture, Search};
 
-/// The exports after the three slices that each starts with. One that the archive does not have stops the program where it is called.
-macro_rules! exports {
-    ($(fn $name:ident($($argument:ident: $kind:ty),*);)*) => {
-        $(
-            #[cfg($name)]
-            unsafe extern "C" {
-                pub fn $name(
-                    file: *const u8, file_len: usize, list: *const u8, list_len: usize, fractions: *const f64, fractions_len: usize,
-                    $($argument: $kind),*
-                ) -> u64;
-            }
-            #[cfg(not($name))]
-            #[allow(clippy::too_many_arguments, clippy::missing_safety_doc)]
-            pub unsafe fn $name(_: *const u8, _: usize, _: *const u8, _: usize, _: *const f64, _: usize, $(_: $kind),*) -> u64 {
-                panic!(concat!("the archive has no ", stringify!($name)))
-            }
-        )*
-    };
-}
-
 mod archive {
-    exports! {
-        fn gerg_properties(t: f64, rho: f64, out: *mut f64);
-        fn gerg_fugacity(t: f64, rho: f64, out: *mut f64, out_len: usize);
-        fn gerg_density(t: f64, target: f64, lo: f64, hi: f64, limit: u64, tolerance: f64, out: *mut f64);
-        fn gerg_outer_roots(t: f64, p: f64, out: *mut f64, out_len: usize);
-        fn gerg_pure_saturation(p: f64, lo: f64, hi: f64, limit: u64, out: *mut f64);
+    unsafe extern "C" {
+        pub fn gerg_properties(
+            file: *const u8, file_len: usize, list: *const u8, list_len: usize, fractions: *const f64, fractions_len: usize,
+            t: f64, rho: f64, out: *mut f64,
+        ) -> u64;
+        pub fn gerg_fugacity(
+            file: *const u8, file_len: usize, list: *const u8, list_len: usize, fractions: *const f64, fractions_len: usize,
+            t: f64, rho: f64, out: *mut f64, out_len: usize,
+        ) -> u64;
+        pub fn gerg_density(
+            file: *const u8, file_len: usize, list: *const u8, list_len: usize, fractions: *const f64, fractions_len: usize,
+            t: f64, target: f64, lo: f64, hi: f64, limit: u64, tolerance: f64, out: *mut f64,
+        ) -> u64;
+        pub fn gerg_outer_roots(
+            file: *const u8, file_len: usize, list: *const u8, list_len: usize, fractions: *const f64, fractions_len: usize,
+            t: f64, p: f64, out: *mut f64, out_len: usize,
+        ) -> u64;
+        pub fn gerg_pure_saturation(
+            file: *const u8, file_len: usize, list: *const u8, list_len: usize, fractions: *const f64, fractions_len: usize,
+            p: f64, lo: f64, hi: f64, limit: u64, out: *mut f64,
+        ) -> u64;
     }
 }
 

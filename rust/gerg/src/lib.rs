@@ -6,7 +6,6 @@
 //! No call makes a claim about the phase: a state is what the equation gives at that temperature and density.
 //!
 //! ```
-//! # if !gerg::has_export("gerg_density") { return }
 //! use gerg::{Component::*, Mixture, Search};
 //! let file = std::fs::read(gerg::DEFAULT_FILE).unwrap();
 //! let gas = Mixture::new([(Methane, 0.9), (Ethane, 0.1)]);
@@ -30,11 +29,6 @@ pub use refusal::{Cause, Refusal};
 
 /// The coefficient file of this repository.
 pub const DEFAULT_FILE: &str = concat!(env!("CARGO_MANIFEST_DIR"), "/../../data/gerg-2008.bin");
-
-/// Whether the archive that this was built with has an export, as `gerg_density`. Calling one that is absent panics.
-pub fn has_export(name: &str) -> bool {
-    !env!("GERG_ABSENT").split(' ').any(|absent| absent == name)
-}
 
 /// Bytes of the longest coefficient file that can be accepted.
 pub const LONGEST_FILE: usize = 28377;

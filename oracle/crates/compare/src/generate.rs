@@ -1,6 +1,7 @@
 //! Calls made from a seed: mostly states that are accepted, with each bound, each kind of bad input and each ending of a search among them.
 use crate::archive::room_of;
 use crate::case::{Call, Case, Mixture};
+use crate::equilibrium;
 use crate::upstream;
 
 pub struct Random(u64);
@@ -42,7 +43,7 @@ const ODD: [f64; 12] = [
 ];
 
 /// A bound, the doubles next to it, and what is no number for it.
-fn near(r: &mut Random, bounds: &[f64]) -> f64 {
+pub fn near(r: &mut Random, bounds: &[f64]) -> f64 {
     let bound = r.pick(bounds);
     match r.below(4) {
         0 => bound,
@@ -52,7 +53,7 @@ fn near(r: &mut Random, bounds: &[f64]) -> f64 {
     }
 }
 
-fn shuffled(r: &mut Random, last: u8, count: usize) -> Vec<u8> {
+pub fn shuffled(r: &mut Random, last: u8, count: usize) -> Vec<u8> {
     let mut all: Vec<u8> = (1..=last).collect();
     for k in 0..count {
         let other = k + r.below((all.len() - k) as u64) as usize;
@@ -62,7 +63,7 @@ fn shuffled(r: &mut Random, last: u8, count: usize) -> Vec<u8> {
     all
 }
 
-fn fractions(r: &mut Random, count: usize) -> Vec<f64> {
+pub fn fractions(r: &mut Random, count: usize) -> Vec<f64> {
     let mut x: Vec<f64> = (0..count).map(|_| if r.one_in(3) { r.log_between(1e-6, 1.0) } else { r.unit() }).collect();
     for v in x.iter_mut().skip(1) {
         match r.below(24) {
@@ -81,7 +82,7 @@ fn fractions(r: &mut Random, count: usize) -> Vec<f64> {
     x
 }
 
-fn damaged(r: &mut Random, mixture: &mut Mixture) {
+pub fn damaged(r: &mut Random, mixture: &mut Mixture) {
     let place = r.below(mixture.list.len() as u64) as usize;
     match r.below(9) {
         0 => mixture.list.clear(),
@@ -159,42 +160,19 @@ fn density_call(r: &mut Random, mixture: &Mixture) -> Call {
     Call::Density { t, target, lo, hi, limit, tolerance }
 }
 
-fn roots_call(r: &mut Random) -> Call {
-    let t = if r.one_in(25) { near(r, &[230.0, 350.0]) } else { r.between(230.0, 350.0) };
-    let p = if r.one_in(25) { near(r, &[1e5, 1e7]) } else { r.log_between(1e5, 1e7) };
-    Call::Roots { t, p }
-}
-
-fn saturation_call(r: &mut Random) -> Call {
-    let p = if r.one_in(15) { near(r, &[1e5, 1e7]) } else { r.log_between(1e5, 7e6) };
-    let middle = r.between(230.0, 350.0);
-    let (mut lo, mut hi) = (r.between(230.0, middle), r.between(middle, 350.0));
-    if r.one_in(10) {
-        lo = near(r, &[230.0, hi]);
-    }
-    if r.one_in(10) {
-        hi = near(r, &[350.0, lo]);
-    }
-    let limit = if r.one_in(3) { r.below(8) } else { 40 + r.below(40) };
-    Call::Saturation { p, lo, hi, limit }
-}
-
 pub fn case(r: &mut Random, kind: &str) -> Case {
-    let narrow = matches!(kind, "roots" | "saturation") && !r.one_in(20);
-    let mut mixture = mixture(r, if narrow { 5 } else { 21 });
-    if kind == "saturation" && !r.one_in(10) && mixture.fractions.len() == mixture.list.len() && !mixture.list.is_empty() {
-        let only = r.below(mixture.list.len() as u64) as usize;
-        mixture.fractions = (0..mixture.list.len()).map(|k| f64::from(u8::from(k == only))).collect();
+    match kind {
+        "roots" => return equilibrium::roots(r),
+        "saturation" => return equilibrium::saturation(r),
+        _ => {}
     }
+    let mixture = mixture(r, 21);
     let call = match kind {
         "properties" => Call::Properties { t: temperature(r), rho: rho(r) },
         "fugacity" => Call::Fugacity { t: temperature(r), rho: rho(r) },
-        "density" => density_call(r, &mixture),
-        "roots" => roots_call(r),
-        _ => saturation_call(r),
+        _ => density_call(r, &mixture),
     };
-    let listed = mixture.list.len();
-    let needed = if kind == "roots" { 4 + listed } else { listed };
+    let needed = mixture.list.len();
     let spare = match r.below(6) {
         0 => needed.saturating_sub(1),
         1 => needed,

@@ -1,7 +1,8 @@
 //! The Rust's answer to a call, with each error as document 01's number and value. Rows 3 and 4, which the Rust has in `Composition`, row 14's added
 //! causes, row 24 and row 25 are worked out here from document 01's text.
 use crate::case::{Answer, Call, Case, Mixture, lent};
-use thermo_models::{GergFugacityState, GergModel, GergState};
+use elementary::Elementary as _;
+use thermo_models::{GERG_GAS_CONSTANT, GergFugacityState, GergModel, GergState};
 use thermo_solvers::{GergDensityOptions, PureSaturation, gerg_density, gerg_outer_roots, pure_saturation};
 use thermo_types::{CalculationError as Error, ComponentId, Composition, CompositionBasis, InputError, NormalizationPolicy, Pressure, Temperature};
 
@@ -134,6 +135,19 @@ fn root_numbers(roots: &[GergFugacityState]) -> Vec<f64> {
     roots.iter().flat_map(one).collect()
 }
 
+/// How often the pressure rises through p on the grid of `gerg_outer_roots`, which says nothing of the crossings that it drops. For counting kinds only.
+pub fn crossings(mixture: &Mixture, t: f64, p: f64) -> usize {
+    let model = model(mixture).expect("an accepted mixture");
+    let logarithmic = (0..=128).map(|i| 0.001 * (f64::from(i) / 128.0 * (30000.0_f64 / 0.001).elementary_ln()).elementary_exp());
+    let even = (0..=256).map(|i| 0.001 + f64::from(i) / 256.0 * (30000.0 - 0.001));
+    let mut grid: Vec<f64> = logarithmic.chain(even).map(|rho| rho.clamp(0.001, 30000.0)).collect();
+    grid.sort_by(f64::total_cmp);
+    grid.dedup();
+    let off = |rho: &f64| rho * (GERG_GAS_CONSTANT * t) * (1.0 + model.helmholtz(Temperature::new(t).unwrap(), *rho).expect("a sample").ar_d) - p;
+    let off: Vec<f64> = grid.iter().map(off).collect();
+    off.windows(2).filter(|pair| pair[0] <= 0.0 && pair[1] >= 0.0).count()
+}
+
 fn saturation_numbers(s: &PureSaturation) -> Vec<f64> {
     vec![
         s.temperature_k, s.pressure_pa, s.liquid_compressibility, s.vapor_compressibility, s.liquid_molar_volume, s.vapor_molar_volume,
@@ -141,8 +155,8 @@ fn saturation_numbers(s: &PureSaturation) -> Vec<f64> {
     ]
 }
 
-/// Middles strictly between the ends, as many as the limit allows, when none is accepted: the Rust's error does not say.
-fn exhausted_trials(model: &GergModel, p: f64, lo: f64, hi: f64, limit: u64) -> u32 {
+/// Middles strictly between the ends, as many as the limit allows, when none is accepted, and the last lower end: the Rust's error says neither.
+fn exhausted(model: &GergModel, p: f64, lo: f64, hi: f64, limit: u64) -> (u32, f64) {
     let (mut lo, mut hi, mut trials) = (lo, hi, 0);
     for _ in 0..limit {
         let mid = lo + 0.5 * (hi - lo);
@@ -156,7 +170,12 @@ fn exhausted_trials(model: &GergModel, p: f64, lo: f64, hi: f64, limit: u64) -> 
             _ => hi = mid,
         }
     }
-    trials
+    (trials, lo)
+}
+
+/// The double below the temperature at which one root passes the reducing density, for a search from 230 to 350 K that nothing ends but its ends.
+pub fn passes_at(mixture: &Mixture, p: f64) -> f64 {
+    exhausted(&model(mixture).expect("an accepted mixture"), p, 230.0, 350.0, u64::MAX).1
 }
 
 /// The accepted value and the numbers written, or the refusal.
@@ -195,7 +214,7 @@ fn accepted(case: &Case) -> Result<(u32, Vec<f64>), Refusal> {
             match pure_saturation(&model, Pressure::new(p).unwrap(), lo, hi, limit as usize) {
                 Ok(Some(found)) => Ok((1, saturation_numbers(&found))),
                 Ok(None) => Ok((0, Vec::new())),
-                Err(error) if format!("{error:?}").contains(EXHAUSTED) => Err((26, exhausted_trials(&model, p, lo, hi, limit))),
+                Err(error) if format!("{error:?}").contains(EXHAUSTED) => Err((26, exhausted(&model, p, lo, hi, limit).0)),
                 Err(error) => Err(refusal(&error)),
             }
         }

@@ -1,23 +1,23 @@
--- `elementary::power::powf_of_ln` meets its contract: the tests on each way, and the logarithm that the caller gave. Assumes nothing.
+-- `elementary::power::powf_of_ln` meets its contract: the tests on each way. Assumes nothing.
 use borrow.Author.Needs.{needs}
 use Rattle.elementary.specs.LnPatterns.{zero-over-zero}
-use Rattle.elementary.specs.Power.{powfOf}
+use Rattle.elementary.specs.Power.{powfFrom}
 use Rattle.elementary.proofs.power.powf_of_ln.Statement.{statement}
 use Rattle.elementary.proofs.power.powf_of_ln.Tie as tie
 
 returns : tie.Need-returns
-unfolding powfOf
+unfolding powfFrom
 returns c = rw (c .if1 .taken)
 
 exp-requires : tie.Need-exp-requires
 exp-requires c κs = search needs
 
 returns-2 : tie.Need-returns-2
-unfolding powfOf
-returns-2 c = rw (c .before .before .if1 .left, c .before .if2 .taken, ← c .before .before .before .pre, c .exp .ensures)
+unfolding powfFrom
+returns-2 c = rw (c .before .before .if1 .left, c .before .if2 .taken, c .exp .ensures)
 
 returns-3 : tie.Need-returns-3
-unfolding powfOf
+unfolding powfFrom
 returns-3 c = rw (zero-over-zero, c .before .if1 .left, c .if2 .left)
 
 pub powf-of-ln-spec : {M : Type 1} → statement M

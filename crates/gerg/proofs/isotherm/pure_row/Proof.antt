@@ -3,6 +3,7 @@ use borrow.Author.Needs.{needs}
 use native.Mathlib.Omega.{arith}
 use mathlib.Core.Path.{_≡_, _∙_}
 use Prim.Native.Nat.{_≤_, _-_, _*_}
+use Rattle.elementary.specs.Power.{powf-from-ln}
 use Rattle.gerg.specs.Isotherm.{pureRow, written, pureCell}
 use Rattle.gerg.specs.IsothermReads.{written-begins, written-turn, written-done}
 use Rattle.gerg.proofs.isotherm.pure_row.Statement.{statement}
@@ -61,7 +62,7 @@ loop-less : tie.Need-loop-less Inv-loop μ-loop
 loop-less c = search needs
 
 loop-again : tie.Need-loop-again Inv-loop μ-loop
-loop-again c = (omega arith, omega arith, written-turn _ _ _ _ (c .before .before .before .loop .inv .2) (c .powf-of-ln .ensures ∙ rw (c .before .toik .ensures)))
+loop-again c = (omega arith, omega arith, written-turn _ _ _ _ (c .before .before .before .loop .inv .2) (c .powf-of-ln .ensures ∙ powf-from-ln _ _ _ (c .before .before .before .before .before .before .before .before .pre .1) ∙ rw (c .before .toik .ensures)))
 
 returns : tie.Need-returns Inv-loop μ-loop
 unfolding pureRow

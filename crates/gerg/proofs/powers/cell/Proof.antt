@@ -1,5 +1,7 @@
 -- `gerg::powers::cell` meets its contract: each way rewrites the tests on c. Assumes nothing.
+use mathlib.Core.Path.{_∙_}
 use borrow.Author.Tests.{lt-ltb, le-ltb}
+use Rattle.elementary.specs.Power.{powf-from-ln}
 use Rattle.gerg.specs.HelmholtzPowers.{powerCell}
 use borrow.Author.Needs.{needs}
 use Rattle.gerg.proofs.powers.cell.Statement.{statement}
@@ -13,7 +15,7 @@ powf-of-ln-requires c κs = search needs
 
 returns : tie.Need-returns
 unfolding powerCell
-returns c = rw (lt-ltb _ _ (c .before .before .if1 .taken), ← c .before .signed-double .ensures) (c .powf-of-ln .ensures)
+returns c = rw (lt-ltb _ _ (c .before .before .if1 .taken), ← c .before .signed-double .ensures) (c .powf-of-ln .ensures ∙ powf-from-ln _ _ _ (c .before .before .before .pre .1))
 
 plain-damping-requires : tie.Need-plain-damping-requires
 plain-damping-requires c κs = search needs

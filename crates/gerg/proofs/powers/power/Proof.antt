@@ -1,4 +1,6 @@
 -- `gerg::powers::power` meets its contract: a small exponent is read, another worked out. Assumes nothing.
+use mathlib.Core.Path.{_∙_}
+use Rattle.elementary.specs.Power.{powf-from-ln}
 use Rattle.gerg.specs.HelmholtzPowers.{power-small}
 use borrow.Author.Needs.{needs}
 use Rattle.gerg.proofs.powers.power.Statement.{statement}
@@ -23,7 +25,7 @@ powf-of-ln-requires : tie.Need-powf-of-ln-requires
 powf-of-ln-requires c κs = search needs
 
 returns-2 : tie.Need-returns-2
-returns-2 c = cc
+returns-2 c = c .powf-of-ln .ensures ∙ powf-from-ln _ _ _ (c .before .before .before .pre .1) ∙ rw (c .before .signed-double .ensures)
 
 pub power-spec : {M : Type 1} → statement M
 power-spec =

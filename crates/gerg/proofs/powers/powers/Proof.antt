@@ -3,8 +3,8 @@ use native.Mathlib.Omega.{arith}
 use mathlib.Core.Path.{_≡_, refl}
 use Prim.Native.Nat.{_≤_, _-_}
 use lib.ListN.{length, length-set}
-use Rattle.numerics.specs.Fill.{filled, fill-begins, fill-again}
-use Rattle.gerg.specs.HelmholtzPowers.{powerCell, powersOf, fill-whole}
+use Rattle.numerics.specs.Fill.{filled, fill-begins, fill-again, fill-whole}
+use Rattle.gerg.specs.HelmholtzPowers.{powerCell, powersOf}
 use borrow.Author.Needs.{needs}
 use Rattle.gerg.proofs.powers.powers.Statement.{statement}
 use Rattle.gerg.proofs.powers.powers.Tie as tie

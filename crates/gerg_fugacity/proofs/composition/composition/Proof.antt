@@ -28,7 +28,7 @@ loop-holds : tie.Need-loop-holds Inv-loop μ-loop
 loop-holds c = (omega arith, iter-begins _ _)
 
 composition-row-requires : tie.Need-composition-row-requires Inv-loop μ-loop
-composition-row-requires c κs = (omega arith, (c .before .before .before .before .before .before .before .before) .pre, record { powers-are = c .before .before .before .before .before .before .before .powers-of .ensures; logarithm-is = c .before .before .before .before .ln .ensures }, c .before .before .before .before .before .dampings-of .ensures)
+composition-row-requires c κs = (omega arith, c .before .before .before .before .before .before .before .before .before .pre, record { powers-are = c .before .before .before .before .before .before .before .before .powers-of .ensures; logarithm-is = c .before .before .before .before .before .ln .ensures }, c .before .before .before .before .before .before .dampings-of .ensures)
 
 add-i : tie.Need-add-i Inv-loop μ-loop
 add-i c = omega arith
@@ -37,7 +37,7 @@ loop-less : tie.Need-loop-less Inv-loop μ-loop
 loop-less c = omega arith
 
 loop-again : tie.Need-loop-again Inv-loop μ-loop
-loop-again c = (omega arith, iter-turn _ _ _ (c .before .before .before .before .loop .inv .1) (c .composition-row .ensures))
+loop-again c = (omega arith, iter-turn _ _ _ (c .before .before .before .before .before .loop .inv .1) (c .composition-row .ensures))
 
 returns : tie.Need-returns Inv-loop μ-loop
 unfolding composition

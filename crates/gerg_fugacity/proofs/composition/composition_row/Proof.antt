@@ -9,25 +9,25 @@ use Rattle.gerg_fugacity.proofs.composition.composition_row.Statement.{
 use Rattle.gerg_fugacity.proofs.composition.composition_row.Tie as tie
 
 abbrev Inv-loop : tie.InvT-loop
-Inv-loop doubles integers powers dampings x delta tau logarithm i own h₀ j₀ h j = (i + 1 ≤ j) × (j ≤ 21) × (h ≡ range (departurePair (tables doubles integers) x delta tau i) (i + 1) j h₀)
+Inv-loop doubles integers powers dampings x delta tau logarithm i g₀ own j₀ g j = (i + 1 ≤ j) × (j ≤ 21) × (g ≡ range (departurePair (tables doubles integers) x delta tau i) (i + 1) j g₀)
 
 abbrev μ-loop : tie.MeasureT-loop
-μ-loop doubles integers powers dampings x delta tau logarithm i own h₀ j₀ h j = 21 - j
+μ-loop doubles integers powers dampings x delta tau logarithm i g₀ own j₀ g j = 21 - j
 
 mul-pure-terms : tie.Need-mul-pure-terms Inv-loop μ-loop
 mul-pure-terms c = omega arith
 
-array-read-pure-terms : tie.Need-array-read-pure-terms Inv-loop μ-loop
-array-read-pure-terms c = omega arith
+element-copy-out-pure-terms : tie.Need-element-copy-out-pure-terms Inv-loop μ-loop
+element-copy-out-pure-terms c = omega arith
 
 pure-terms-requires : tie.Need-pure-terms-requires Inv-loop μ-loop
-pure-terms-requires c κs = (c) .pre
+pure-terms-requires c κs = c .before .pre
 
-mul-h : tie.Need-mul-h Inv-loop μ-loop
-mul-h c = omega arith
+mul-g : tie.Need-mul-g Inv-loop μ-loop
+mul-g c = omega arith
 
-array-write-h : tie.Need-array-write-h Inv-loop μ-loop
-array-write-h c = omega arith
+element-write-g : tie.Need-element-write-g Inv-loop μ-loop
+element-write-g c = omega arith
 
 add-j : tie.Need-add-j Inv-loop μ-loop
 add-j c = omega arith
@@ -36,7 +36,7 @@ loop-holds : tie.Need-loop-holds Inv-loop μ-loop
 loop-holds c = (omega arith, omega arith, range-begins _ _ _)
 
 departure-pair-requires : tie.Need-departure-pair-requires Inv-loop μ-loop
-departure-pair-requires c κs = (omega arith, omega arith, (c .before .before .before) .pre .1, (c .before .before .before) .pre .2)
+departure-pair-requires c κs = (omega arith, omega arith, c .before .before .before .before .before .pre .1, c .before .before .before .before .before .pre .2)
 
 add-j-2 : tie.Need-add-j-2 Inv-loop μ-loop
 add-j-2 c = omega arith
@@ -45,7 +45,7 @@ loop-less : tie.Need-loop-less Inv-loop μ-loop
 loop-less c = omega arith
 
 loop-again : tie.Need-loop-again Inv-loop μ-loop
-loop-again c = (omega arith, omega arith, range-turn _ _ _ _ (omega arith) (c .before .before .loop .inv .2) (c .departure-pair .ensures))
+loop-again c = (omega arith, omega arith, range-turn _ _ _ _ (omega arith) (c .before .before .before .loop .inv .2) (c .departure-pair .ensures))
 
 returns : tie.Need-returns Inv-loop μ-loop
 unfolding compositionRow
@@ -58,10 +58,10 @@ composition-row-spec =
     Inv-loop
     μ-loop
     mul-pure-terms
-    array-read-pure-terms
+    element-copy-out-pure-terms
     pure-terms-requires
-    mul-h
-    array-write-h
+    mul-g
+    element-write-g
     add-j
     loop-holds
     departure-pair-requires

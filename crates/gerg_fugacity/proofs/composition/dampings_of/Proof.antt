@@ -1,10 +1,9 @@
 -- `gerg_fugacity::composition::dampings_of` meets its contract. The invariant: the first q factors are written. Assumes nothing.
-use mathlib.Core.Path.{_≡_, refl, _∙_}
+use mathlib.Core.Path.{_≡_, refl}
 use Prim.Native.Nat.{_≤_, _-_}
 use lib.ListN.{length}
-use Rattle.numerics.specs.Double.{+0}
-use Rattle.numerics.specs.Fill.{filled, fill-begins, fill-again, fill-done}
-use Rattle.gerg_fugacity.specs.FugacityPowers.{dampingAt, fill-whole}
+use Rattle.numerics.specs.Fill.{filled, fill-begins, fill-again, fill-whole}
+use Rattle.gerg_fugacity.specs.FugacityPowers.{dampingAt}
 use native.Mathlib.Omega.{arith}
 use Rattle.gerg_fugacity.proofs.composition.dampings_of.Statement.{statement}
 use Rattle.gerg_fugacity.proofs.composition.dampings_of.Tie as tie
@@ -37,7 +36,7 @@ loop-again : tie.Need-loop-again Inv-loop μ-loop
 loop-again c = (omega arith, c .before .before .loop .inv .1, rw (c .damping-at .ensures) (fill-again _ _ _ (c .before .before .loop .inv .2) (omega arith)))
 
 returns : tie.Need-returns Inv-loop μ-loop
-returns c = fill-done _ _ _ _ (c .before .loop .inv .2) (omega arith) ∙ fill-whole (dampingAt ((c .before .before) .args .delta)) 17 +0
+returns c = fill-whole _ _ _ _ (c .before .loop .inv .1) (c .before .loop .inv .2) (omega arith)
 
 pub dampings-of-spec : {M : Type 1} → statement M
 dampings-of-spec =

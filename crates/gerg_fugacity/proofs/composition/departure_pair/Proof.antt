@@ -29,39 +29,47 @@ returns : tie.Need-returns
 unfolding departurePair
 returns c = rw (← c .before .before .m-numb .ensures, ← c .before .wide .ensures, c .if1 .taken)
 
-mul-t18 : tie.Need-mul-t18
-mul-t18 c = search needs
+mul-t16 : tie.Need-mul-t16
+mul-t16 c = search needs
 
-array-read-t21 : tie.Need-array-read-t21
-array-read-t21 c = search needs
+element-copy-out-t19 : tie.Need-element-copy-out-t19
+element-copy-out-t19 c = search needs
 
-mul-t32 : tie.Need-mul-t32
-mul-t32 c = search needs
+mul-t30 : tie.Need-mul-t30
+mul-t30 c = search needs
 
-array-read-t35 : tie.Need-array-read-t35
-array-read-t35 c = search needs
+element-copy-out-t33 : tie.Need-element-copy-out-t33
+element-copy-out-t33 c = search needs
 
 sub-departure-terms : tie.Need-sub-departure-terms
-sub-departure-terms c = let low = leb-false 128 (c .before .wide .result) (or-false _ _ (c .if1 .left) .0) in let m = (c .before .before .before .before .before) .pre .2 .numbers ((c .before .before .before .before .before) .args .i) ((c .before .before .before .before .before) .args .j) ((c .before .before .before .before .before) .pre .0) ((c .before .before .before .before .before) .pre .1) (omega (arith, c .before .before .m-numb .ensures, c .before .wide .ensures)) in omega (arith, c .before .before .m-numb .ensures, c .before .wide .ensures)
+sub-departure-terms c =
+    let low = leb-false 128 (c .before .before .before .wide .result) (or-false _ _ (c .before .before .if1 .left) .0) in
+    let start = c .before .before .before .before .before .before .before in
+    let m = start .pre .2 .numbers (start .args .i) (start .args .j) (start .pre .0) (start .pre .1) (omega (arith, c .before .before .before .before .m-numb .ensures, c .before .before .before .wide .ensures)) in
+    omega (arith, c .before .before .before .before .m-numb .ensures, c .before .before .before .wide .ensures)
 
 departure-terms-requires : tie.Need-departure-terms-requires
-departure-terms-requires c κs = let low = leb-false 128 (c .before .wide .result) (or-false _ _ (c .if1 .left) .0) in let m = (c .before .before .before .before .before) .pre .2 .numbers ((c .before .before .before .before .before) .args .i) ((c .before .before .before .before .before) .args .j) ((c .before .before .before .before .before) .pre .0) ((c .before .before .before .before .before) .pre .1) (omega (arith, c .before .before .m-numb .ensures, c .before .wide .ensures)) in (omega arith, omega arith, omega (arith, c .before .before .m-numb .ensures, c .before .wide .ensures), (c .before .before .before .before .before) .pre .2, (c .before .before .before .before .before) .pre .3)
+departure-terms-requires c κs =
+    let low = leb-false 128 (c .before .before .before .wide .result) (or-false _ _ (c .before .before .if1 .left) .0) in
+    let start = c .before .before .before .before .before .before .before in
+    let m = start .pre .2 .numbers (start .args .i) (start .args .j) (start .pre .0) (start .pre .1) (omega (arith, c .before .before .before .before .m-numb .ensures, c .before .before .before .wide .ensures)) in
+    (omega arith, omega arith, omega (arith, c .before .before .before .before .m-numb .ensures, c .before .before .before .wide .ensures), start .pre .2, start .pre .3)
 
-mul-h : tie.Need-mul-h
-mul-h c = search needs
+mul-g : tie.Need-mul-g
+mul-g c = search needs
 
-array-write-h : tie.Need-array-write-h
-array-write-h c = search needs
+element-write-g : tie.Need-element-write-g
+element-write-g c = search needs
 
-mul-h-2 : tie.Need-mul-h-2
-mul-h-2 c = search needs
+mul-g-2 : tie.Need-mul-g-2
+mul-g-2 c = search needs
 
-array-write-h-2 : tie.Need-array-write-h-2
-array-write-h-2 c = search needs
+element-write-g-2 : tie.Need-element-write-g-2
+element-write-g-2 c = search needs
 
 returns-2 : tie.Need-returns-2
 unfolding departurePair
-returns-2 c = rw (← c .before .before .before .m-numb .ensures, ← c .before .before .wide .ensures, c .before .if1 .left, ← c .departure-terms .ensures)
+returns-2 c = rw (← c .before .before .before .before .before .m-numb .ensures, ← c .before .before .before .before .wide .ensures, c .before .before .before .if1 .left, ← c .departure-terms .ensures)
 
 pub departure-pair-spec : {M : Type 1} → statement M
 departure-pair-spec =
@@ -74,14 +82,14 @@ departure-pair-spec =
     m-numb-requires
     wide-requires
     returns
-    mul-t18
-    array-read-t21
-    mul-t32
-    array-read-t35
+    mul-t16
+    element-copy-out-t19
+    mul-t30
+    element-copy-out-t33
     sub-departure-terms
     departure-terms-requires
-    mul-h
-    array-write-h
-    mul-h-2
-    array-write-h-2
+    mul-g
+    element-write-g
+    mul-g-2
+    element-write-g-2
     returns-2)

@@ -1,11 +1,9 @@
 -- `gerg_fugacity::composition::powers_of` meets its contract. The invariant: the first q powers are written. Assumes nothing.
-use mathlib.Core.Path.{_≡_, refl, _∙_}
+use mathlib.Core.Path.{_≡_, refl}
 use Prim.Native.Nat.{_≤_, _-_}
 use lib.ListN.{length}
-use Rattle.numerics.specs.Double.{+0}
-use Rattle.numerics.specs.Fill.{filled, fill-begins, fill-again, fill-done}
+use Rattle.numerics.specs.Fill.{filled, fill-begins, fill-again, fill-whole}
 use Rattle.elementary.specs.Power.{powiByteOf}
-use Rattle.gerg_fugacity.specs.FugacityPowers.{fill-whole}
 use borrow.Author.Needs.{needs}
 use native.Mathlib.Omega.{arith}
 use Rattle.gerg_fugacity.proofs.composition.powers_of.Statement.{statement}
@@ -42,7 +40,7 @@ loop-again : tie.Need-loop-again Inv-loop μ-loop
 loop-again c = (omega arith, c .before .before .before .loop .inv .1, rw (c .before .wide .ensures, c .powi-byte .ensures) (fill-again _ _ _ (c .before .before .before .loop .inv .2) (omega arith)))
 
 returns : tie.Need-returns Inv-loop μ-loop
-returns c = fill-done _ _ _ _ (c .before .loop .inv .2) (omega arith) ∙ fill-whole (powiByteOf ((c .before .before) .args .delta)) 16 +0
+returns c = fill-whole _ _ _ _ (c .before .loop .inv .1) (c .before .loop .inv .2) (omega arith)
 
 pub powers-of-spec : {M : Type 1} → statement M
 powers-of-spec =

@@ -1,4 +1,5 @@
 -- `gerg_fugacity::composition::pure_term` meets its contract. Assumes nothing.
+use Rattle.elementary.specs.Power.{powf-from-ln}
 use Rattle.gerg_fugacity.specs.Fugacity.{pureTerm}
 use borrow.Author.Needs.{needs}
 use Rattle.gerg_fugacity.proofs.composition.pure_term.Statement.{statement}
@@ -14,7 +15,7 @@ toik-requires : tie.Need-toik-requires
 toik-requires c κs = search needs
 
 powf-of-ln-requires : tie.Need-powf-of-ln-requires
-powf-of-ln-requires c κs = (c .before .before .before) .pre .2 .logarithm-is
+powf-of-ln-requires c κs = search needs
 
 kpol-requires : tie.Need-kpol-requires
 kpol-requires c κs = search needs
@@ -33,7 +34,7 @@ noik-requires c κs = search needs
 
 returns : tie.Need-returns
 unfolding pureTerm
-returns c = cc
+returns c = cc (powf-from-ln _ _ _ ((c .before .before .before .before .before .before .before .before .before) .pre .2 .logarithm-is))
 
 pub pure-term-spec : {M : Type 1} → statement M
 pure-term-spec =

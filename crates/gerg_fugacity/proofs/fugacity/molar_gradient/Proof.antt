@@ -29,7 +29,7 @@ loop-less : tie.Need-loop-less Inv-loop μ-loop
 loop-less c = omega arith
 
 loop-again : tie.Need-loop-again Inv-loop μ-loop
-loop-again c = (omega arith, iter-turn _ _ _ (c .before .before .loop .inv .1) (c .through-reducing .ensures))
+loop-again c = (omega arith, iter-turn _ _ _ (c .before .before .before .loop .inv .1) (c .through-reducing .ensures))
 
 returns : tie.Need-returns Inv-loop μ-loop
 unfolding molarGradient

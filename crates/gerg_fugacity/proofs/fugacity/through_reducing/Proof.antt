@@ -6,35 +6,35 @@ use borrow.Author.Needs.{needs}
 use Rattle.gerg_fugacity.proofs.fugacity.through_reducing.Statement.{statement}
 use Rattle.gerg_fugacity.proofs.fugacity.through_reducing.Tie as tie
 
-mul-h : tie.Need-mul-h
-mul-h c = search needs
+mul-g : tie.Need-mul-g
+mul-g c = search needs
 
-array-read-h : tie.Need-array-read-h
-array-read-h c = search needs
+element-copy-out-g : tie.Need-element-copy-out-g
+element-copy-out-g c = search needs
 
-mul-h-2 : tie.Need-mul-h-2
-mul-h-2 c = search needs
+mul-g-2 : tie.Need-mul-g-2
+mul-g-2 c = search needs
 
-index-1-h : tie.Need-index-1-h
-index-1-h c = search needs
+index-1-g : tie.Need-index-1-g
+index-1-g c = search needs
 
-index-2-h : tie.Need-index-2-h
-index-2-h c = search needs
+index-2-g : tie.Need-index-2-g
+index-2-g c = search needs
 
-mul-h-3 : tie.Need-mul-h-3
-mul-h-3 c = search needs
+mul-g-3 : tie.Need-mul-g-3
+mul-g-3 c = search needs
 
-index-1-h-2 : tie.Need-index-1-h-2
-index-1-h-2 c = search needs
+index-1-g-2 : tie.Need-index-1-g-2
+index-1-g-2 c = search needs
 
-index-2-h-2 : tie.Need-index-2-h-2
-index-2-h-2 c = search needs
+index-2-g-2 : tie.Need-index-2-g-2
+index-2-g-2 c = search needs
 
-mul-h-4 : tie.Need-mul-h-4
-mul-h-4 c = search needs
+mul-g-4 : tie.Need-mul-g-4
+mul-g-4 c = search needs
 
-array-write-h : tie.Need-array-write-h
-array-write-h c = search needs
+element-write-g : tie.Need-element-write-g
+element-write-g c = search needs
 
 returns : tie.Need-returns
 unfolding throughReducing bumped
@@ -44,14 +44,14 @@ pub through-reducing-spec : {M : Type 1} → statement M
 through-reducing-spec =
     tie.close
     (tie.spec
-    mul-h
-    array-read-h
-    mul-h-2
-    index-1-h
-    index-2-h
-    mul-h-3
-    index-1-h-2
-    index-2-h-2
-    mul-h-4
-    array-write-h
+    mul-g
+    element-copy-out-g
+    mul-g-2
+    index-1-g
+    index-2-g
+    mul-g-3
+    index-1-g-2
+    index-2-g-2
+    mul-g-4
+    element-write-g
     returns)

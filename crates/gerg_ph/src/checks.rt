@@ -1,0 +1,51 @@
+// Row 25: one positive fraction, and ends that rise.
+
+use crate::Positive;
+use gerg_model::GergModel;
+use gerg_model::mixture;
+use gerg_model::mixture::is_finite;
+ghost use mathlib.Core.Path.{_≡_};
+ghost use Prim.Native.Nat.{_+_, _^_, _<_};
+ghost use lib.Ieee.{lt};
+ghost use Rattle.numerics.specs.Double.{+0, pick};
+ghost use Rattle.gerg_model.specs.Mixture.{Listed};
+ghost use Rattle.gerg_ph.specs.Checks.{positiveFractions, positivePlace, refusedBy};
+
+// The fraction at place k joins the positive ones if it is one.
+fn joined(p: Positive, k: usize, fraction: f64) -> Positive
+    requires { ⌜ p .count + 1 < 2 ^ 64 ⌝ }
+    ensures { λ r. ⌜ (r .count ≡ pick (lt +0 fraction) (p .count + 1) (p .count)) × (r .place ≡ pick (lt +0 fraction) k (p .place)) ⌝ }
+{
+    if fraction > 0.0 {
+        return Positive {
+            count: p.count + 1,
+            place: k,
+        };
+    }
+    p
+}
+
+// The positive fractions of the list.
+pub fn positive(model: GergModel) -> Positive
+    requires { ⌜ Listed model ⌝ }
+    ensures { λ r. ⌜ (r .count ≡ positiveFractions model) × (r .place ≡ positivePlace model) × (r .place < 21) ⌝ }
+{
+    let fractions = model.fractions;
+    let indices = model.component_indices;
+    let n = model.components;
+    let mut p = Positive { count: 0, place: 0 };
+    let mut k = 0usize;
+    while k < n {
+        let index = mixture::wide(indices[k]);
+        p = joined(p, k, fractions[index]);
+        k += 1;
+    }
+    p
+}
+
+// Row 25, of the number of positive fractions and the ends.
+pub fn refused(n: usize, lo: f64, hi: f64) -> bool
+    ensures { λ r. ⌜ r ≡ refusedBy n lo hi ⌝ }
+{
+    !(n == 1) | !is_finite(lo) | !is_finite(hi) | !(lo < hi)
+}

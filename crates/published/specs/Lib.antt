@@ -1,0 +1,2 @@
+-- What the program works out.
+pub mod Published
