@@ -6,6 +6,7 @@ pub mod Put
 pub mod Rows
 pub mod Whole
 pub mod Some
+pub mod Finite
 pub mod Cases
 pub mod Lookup
 pub mod Numbers

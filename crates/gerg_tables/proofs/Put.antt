@@ -1,6 +1,6 @@
 -- Lists stored into an array one after the other.
 use mathlib.Core.Path.{_≡_, refl, sym, ap, _∙_}
-use mathlib.Core.Bool.{Bool, true, false, cond}
+use mathlib.Core.Bool.{Bool, true, false, _&&_, cond}
 use mathlib.Core.List.{List, [], _∷_, _++_}
 use Prim.Native.Nat.{ℕ, zero, suc, _+_, _*_, _≤_, _<_}
 use native.Mathlib.Numerals.{add-one}
@@ -8,6 +8,8 @@ use native.Mathlib.Nat.{mul-add, mul-suc, mul-zero, mul-le-mul, mul-le-mul-left}
 use native.Mathlib.Omega.{arith}
 use lib.ListN.{length, set, replicate, length-append}
 use lib.Seq.{sets}
+use lib.Dec.{leb, ltb}
+use borrow.Author.Tests.{le-leb, lt-leb, le-ltb, lt-ltb}
 use lib.Ieee.{Float}
 use Rattle.numerics.specs.Double.{+0}
 use Rattle.numerics.specs.Fill.{tabulate, length-tabulate}
@@ -138,6 +140,20 @@ module _ (there : Bool) (s : List ℕ) (base offset to : ℕ) where
       tabulate-on (λ k. cond there (byte s (base + offset + k)) 0) k l to i
       (e ∙ ap (λ (p : ℕ). cond there (byte s p) 0) (let q : base + (offset + k) ≡ base + offset + k = omega arith in q))
 
+-- which records the file has
+and-false : (b : Bool) → (b && false) ≡ false
+and-false true = refl
+and-false false = refl
+
+pub before-first : (r : Records) (k : ℕ) → k < r .first → false ≡ present r k
+before-first r k h = sym (ap (λ (b : Bool). b && ltb k (r .end)) (lt-leb _ _ h))
+
+pub from-first : (r : Records) (k : ℕ) → r .first ≤ k → k < r .end → true ≡ present r k
+from-first r k h g = sym (ap (λ (b : Bool). b && ltb k (r .end)) (le-leb _ _ h) ∙ lt-ltb _ _ g)
+
+pub from-end : (r : Records) (k : ℕ) → r .end ≤ k → false ≡ present r k
+from-end r k h = sym (ap (λ (b : Bool). leb (r .first) k && b) (le-ltb _ _ h) ∙ and-false (leb (r .first) k))
+
 -- record by record
 module _ (s : List ℕ) (r : Records) (offset per to : ℕ) where
   pub length-record : (k : ℕ) → length (recordDoubles (present r k) s (place r offset k) per) ≡ per
@@ -170,6 +186,13 @@ module _ (s : List ℕ) (r : Records) (offset per to : ℕ) where
       let q : r .base + n * r .before + offset + n * k ≡ r .base + (offset + n * (r .before + k)) = omega (arith, mul-add n (r .before) k) in
       record-on k l i e
       (t ∙ ap (λ (p : ℕ). sets o (to + per * k) (recordDoubles b s p per)) (q ∙ ap (λ (m : ℕ). r .base + (offset + m * (r .before + k))) (sym z)))
+
+  -- the same with the place of record 0's numbers by itself
+  pub record-from : (n k : ℕ) (l : List Float) {b : Bool} {o o′ : List Float} {at : ℕ} → r .size ≡ n → at ≡ r .base + n * r .before + offset
+      → o ≡ sets l to (doublesOf s r offset k per) → b ≡ present r k → o′ ≡ sets o (to + per * k) (recordDoubles b s (at + n * k) per)
+      → o′ ≡ sets l to (doublesOf s r offset (k + 1) per)
+  record-from n k l {b = b} {o = o} z q i e t =
+      record-at n k l z i e (t ∙ ap (λ (p : ℕ). sets o (to + per * k) (recordDoubles b s (p + n * k) per)) q)
 
   pub byte-record-on : (k : ℕ) (l : List ℕ) {b : Bool} {o o′ : List ℕ} → o ≡ sets l to (bytesOf s r offset k per) → b ≡ present r k
       → o′ ≡ sets o (to + per * k) (recordBytes b s (place r offset k) per) → o′ ≡ sets l to (bytesOf s r offset (k + 1) per)

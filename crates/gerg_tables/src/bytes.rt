@@ -43,7 +43,7 @@ fn word_here(s: &[u8], at: usize) -> u64
 }
 
 // A byte of the file.
-fn byte_inside(s: &[u8], at: usize) -> usize
+pub fn byte_inside(s: &[u8], at: usize) -> usize
     requires { ⌜ at < length (now s) ⌝ }
     ensures { λ r. ⌜ (r ≡ byte (now (s .entry)) at) × (r < 256) ⌝ }
 {

@@ -6,6 +6,7 @@ ghost use lib.ListN.{length};
 ghost use lib.Dec.{leb};
 ghost use Rattle.gerg_tables.specs.File.{sameAt, counted, numbered, chain, group, pairRow, functions, afterRevision, follow, place, atEnd, fileOf};
 use crate::bytes::byte_at;
+use crate::bytes::byte_inside;
 use crate::bytes::term_count;
 use crate::bytes::wide;
 
@@ -65,9 +66,9 @@ fn numbered_record(
     ensures { λ r. ⌜ r ≡ numbered (now (s .entry)) kind size lead number at ⌝ }
 {
     if holds(s, at, size) {
-        if byte_at(s, at) == kind {
-            if byte_at(s, at + 1) == lead {
-                if byte_at(s, at + 2) == number {
+        if byte_inside(s, at) == kind {
+            if byte_inside(s, at + 1) == lead {
+                if byte_inside(s, at + 2) == number {
                     return Walk::To(at + size);
                 }
             }

@@ -1,7 +1,9 @@
 // Numbers of a row of records, stored into the arrays of the tables. A record that the file has not stores zeros.
 ghost use mathlib.Core.Path.{_≡_};
 ghost use mathlib.Core.Bool.{cond, true, false};
-ghost use Prim.Native.Nat.{_+_, _*_, _^_, _≤_, _<_};
+ghost use mathlib.Core.List.{List};
+ghost use Prim.Native.Nat.{ℕ, _+_, _*_, _^_, _≤_, _<_};
+ghost use lib.Ieee.{Float};
 ghost use lib.ListN.{length, replicate};
 ghost use lib.Seq.{sets};
 ghost use Rattle.numerics.specs.Double.{+0};
@@ -188,6 +190,28 @@ fn put_two(there: bool, s: &[u8], at: usize, to: usize, out: &mut [f64; 4086])
     }
 }
 
+// The same for the records `from` to `until` - 1, of 21 bytes each, which the file has or has not alike.
+fn put_twos(
+    there: bool,
+    s: &[u8],
+    r: Records,
+    offset: usize,
+    from: usize,
+    until: usize,
+    to: usize,
+    out: &mut [f64; 4086],
+)
+    requires { ⌜ (r .size ≡ 21) × ((r .before < 2 ^ 16) × ((offset < 2 ^ 8) × ((from ≤ until) × ((until < 2 ^ 8) × ((to + 2 * until ≤ 4086) × ((r .base + (offset + 21 * (r .before + until)) ≤ length (now s)) × ((k : ℕ) → from ≤ k → k < until → there ≡ present r k))))))) ⌝ }
+    ensures { λ _. ⌜ ((l : List Float) → now (out .entry) ≡ sets l to (doublesOf (now (s .entry)) r offset from 2) → now (out .exit) ≡ sets l to (doublesOf (now (s .entry)) r offset until 2)) ⌝ }
+{
+    let first = r.base + 21 * r.before + offset;
+    let mut k = from;
+    while k < until {
+        put_two(there, s, first + 21 * k, to + 2 * k, out);
+        k += 1;
+    }
+}
+
 // `put_record_doubles` for two doubles of each term of a component, where the file has room for all the records.
 fn put_two_of_each(
     s: &[u8],
@@ -197,16 +221,14 @@ fn put_two_of_each(
     to: usize,
     out: &mut [f64; 4086],
 )
-    requires { ⌜ (r .size ≡ 21) × ((r .before < 2 ^ 16) × ((offset < 2 ^ 8) × ((count < 2 ^ 8) × ((to + 2 * count ≤ 4086) × (r .base + (offset + 21 * (r .before + count)) ≤ length (now s)))))) ⌝ }
+    requires { ⌜ (r .size ≡ 21) × ((r .before < 2 ^ 16) × ((offset < 2 ^ 8) × ((count < 2 ^ 8) × ((to + 2 * count ≤ 4086) × ((r .first ≤ r .end) × ((r .end ≤ count) × (r .base + (offset + 21 * (r .before + count)) ≤ length (now s)))))))) ⌝ }
     ensures { λ _. ⌜ now (out .exit) ≡ sets (now (out .entry)) to (doublesOf (now (s .entry)) r offset count 2) ⌝ }
 {
-    let first = r.base + 21 * r.before + offset;
-    let mut k: usize = 0;
-    while k < count {
-        let there = r.present(k);
-        put_two(there, s, first + 21 * k, to + 2 * k, out);
-        k += 1;
-    }
+    let first = r.first;
+    let end = r.end;
+    put_twos(false, s, r, offset, 0, first, to, out);
+    put_twos(true, s, r, offset, first, end, to, out);
+    put_twos(false, s, r, offset, end, count, to, out);
 }
 
 // Five doubles that stand in the file, stored from `to` on.
@@ -244,6 +266,28 @@ fn put_five(there: bool, s: &[u8], at: usize, to: usize, out: &mut [f64; 4086])
     }
 }
 
+// The same for the records `from` to `until` - 1, of 44 bytes each, which the file has or has not alike.
+fn put_fives(
+    there: bool,
+    s: &[u8],
+    r: Records,
+    offset: usize,
+    from: usize,
+    until: usize,
+    to: usize,
+    out: &mut [f64; 4086],
+)
+    requires { ⌜ (r .size ≡ 44) × ((r .before < 2 ^ 16) × ((offset < 2 ^ 8) × ((from ≤ until) × ((until < 2 ^ 8) × ((to + 5 * until ≤ 4086) × ((r .base + (offset + 44 * (r .before + until)) ≤ length (now s)) × ((k : ℕ) → from ≤ k → k < until → there ≡ present r k))))))) ⌝ }
+    ensures { λ _. ⌜ ((l : List Float) → now (out .entry) ≡ sets l to (doublesOf (now (s .entry)) r offset from 5) → now (out .exit) ≡ sets l to (doublesOf (now (s .entry)) r offset until 5)) ⌝ }
+{
+    let first = r.base + 44 * r.before + offset;
+    let mut k = from;
+    while k < until {
+        put_five(there, s, first + 44 * k, to + 5 * k, out);
+        k += 1;
+    }
+}
+
 // `put_record_doubles` for five doubles of each pair or term of a departure function, where the file has room for all the records.
 fn put_five_of_each(
     s: &[u8],
@@ -253,16 +297,27 @@ fn put_five_of_each(
     to: usize,
     out: &mut [f64; 4086],
 )
-    requires { ⌜ (r .size ≡ 44) × ((r .before < 2 ^ 16) × ((offset < 2 ^ 8) × ((count < 2 ^ 8) × ((to + 5 * count ≤ 4086) × (r .base + (offset + 44 * (r .before + count)) ≤ length (now s)))))) ⌝ }
+    requires { ⌜ (r .size ≡ 44) × ((r .before < 2 ^ 16) × ((offset < 2 ^ 8) × ((count < 2 ^ 8) × ((to + 5 * count ≤ 4086) × ((r .first ≤ r .end) × ((r .end ≤ count) × (r .base + (offset + 44 * (r .before + count)) ≤ length (now s)))))))) ⌝ }
     ensures { λ _. ⌜ now (out .exit) ≡ sets (now (out .entry)) to (doublesOf (now (s .entry)) r offset count 5) ⌝ }
 {
-    let first = r.base + 44 * r.before + offset;
-    let mut k: usize = 0;
-    while k < count {
-        let there = r.present(k);
-        put_five(there, s, first + 44 * k, to + 5 * k, out);
-        k += 1;
+    let first = r.first;
+    let end = r.end;
+    put_fives(false, s, r, offset, 0, first, to, out);
+    put_fives(true, s, r, offset, first, end, to, out);
+    put_fives(false, s, r, offset, end, count, to, out);
+}
+
+// Whether the file has room for `count` records of `size` bytes, with those that it has among them in order.
+fn fits(s: &[u8], r: Records, offset: usize, size: usize, count: usize) -> bool
+    requires { ⌜ (size < 2 ^ 8) × ((r .before < 2 ^ 16) × ((offset < 2 ^ 8) × (count < 2 ^ 8))) ⌝ }
+    ensures { λ b. ⌜ (b ≡ true → (r .first ≤ r .end) × ((r .end ≤ count) × (r .base + (offset + size * (r .before + count)) ≤ length (now (s .entry))))) ⌝ }
+{
+    if r.first <= r.end {
+        if r.end <= count {
+            return holds(s, r.base, offset + size * (r.before + count));
+        }
     }
+    false
 }
 
 // `per` doubles of each of the records 0 to count - 1, `offset` bytes into it, stored from `to` on.
@@ -280,7 +335,7 @@ pub fn put_record_doubles(
 {
     if per == 2 {
         if r.size == 21 {
-            if holds(s, r.base, offset + 21 * (r.before + count)) {
+            if fits(s, r, offset, 21, count) {
                 put_two_of_each(s, r, offset, count, to, out);
                 return;
             }
@@ -288,7 +343,7 @@ pub fn put_record_doubles(
     }
     if per == 5 {
         if r.size == 44 {
-            if holds(s, r.base, offset + 44 * (r.before + count)) {
+            if fits(s, r, offset, 44, count) {
                 put_five_of_each(s, r, offset, count, to, out);
                 return;
             }

@@ -1,8 +1,10 @@
-use mathlib.Core.Path.{_≡_, refl, sym}
+use mathlib.Core.Path.{_≡_, refl, sym, _∙_}
 use Prim.Native.Nat.{_+_, _-_, _≤_}
 use Rattle.gerg_tables.specs.Check.{first, numberFault}
 use Rattle.gerg_tables.proofs.Some.{fault-found, no-fault-yet, no-fault, numbered-fault, no-numbered-fault}
 use native.Mathlib.Omega.{arith}
+use borrow.Author.Needs.{needs}
+use Rattle.gerg_tables.proofs.Finite.{no-number-fault}
 use Rattle.gerg_tables.proofs.check.first_nonfinite.Statement.{statement}
 use Rattle.gerg_tables.proofs.check.first_nonfinite.Tie as tie
 
@@ -11,6 +13,12 @@ Inv-loop doubles q₀ q = (q ≤ 5) × (first (numberFault doubles) 5 0 ≡ firs
 
 abbrev μ-loop : tie.MeasureT-loop
 μ-loop doubles q₀ q = 5 - q
+
+finite-pairs-requires : tie.Need-finite-pairs-requires Inv-loop μ-loop
+finite-pairs-requires c κs = search needs
+
+returns : tie.Need-returns Inv-loop μ-loop
+returns c = sym (no-number-fault _ (sym (c .before .finite-pairs .ensures) ∙ c .if1 .taken))
 
 loop-holds : tie.Need-loop-holds Inv-loop μ-loop
 loop-holds c = (omega arith, refl)
@@ -24,8 +32,8 @@ add-result c = omega arith
 cast-result : tie.Need-cast-result Inv-loop μ-loop
 cast-result c = omega arith
 
-returns : tie.Need-returns Inv-loop μ-loop
-returns c = sym (fault-found _ 5 _ (c .before .before .before .loop .inv .1) (c .before .before .loop-test .taken) (numbered-fault (c .before .before .before .loop .q + 1) (c .before .some-nonfinite .ensures) (c .if1 .taken)) (omega arith))
+returns-2 : tie.Need-returns-2 Inv-loop μ-loop
+returns-2 c = sym (fault-found _ 5 _ (c .before .before .before .loop .inv .1) (c .before .before .loop-test .taken) (numbered-fault (c .before .before .before .loop .q + 1) (c .before .some-nonfinite .ensures) (c .if2 .taken)) (omega arith))
 
 add-q : tie.Need-add-q Inv-loop μ-loop
 add-q c = omega arith
@@ -34,10 +42,10 @@ loop-less : tie.Need-loop-less Inv-loop μ-loop
 loop-less c = omega arith
 
 loop-again : tie.Need-loop-again Inv-loop μ-loop
-loop-again c = (omega arith, no-fault-yet _ 5 _ (c .before .before .before .loop .inv .1) (c .before .before .loop-test .taken) (no-numbered-fault (c .before .before .before .loop .q + 1) (c .before .some-nonfinite .ensures) (c .if1 .left)) (omega arith))
+loop-again c = (omega arith, no-fault-yet _ 5 _ (c .before .before .before .loop .inv .1) (c .before .before .loop-test .taken) (no-numbered-fault (c .before .before .before .loop .q + 1) (c .before .some-nonfinite .ensures) (c .if2 .left)) (omega arith))
 
-returns-2 : tie.Need-returns-2 Inv-loop μ-loop
-returns-2 c = sym (no-fault _ 5 _ (c .before .loop .inv .1) (c .loop-test .left))
+returns-3 : tie.Need-returns-3 Inv-loop μ-loop
+returns-3 c = sym (no-fault _ 5 _ (c .before .loop .inv .1) (c .loop-test .left))
 
 pub first-nonfinite-spec : {M : Type 1} → statement M
 first-nonfinite-spec =
@@ -45,12 +53,14 @@ first-nonfinite-spec =
     (tie.spec
     Inv-loop
     μ-loop
+    finite-pairs-requires
+    returns
     loop-holds
     some-nonfinite-requires
     add-result
     cast-result
-    returns
+    returns-2
     add-q
     loop-less
     loop-again
-    returns-2)
+    returns-3)

@@ -7,35 +7,35 @@ use Rattle.gerg_tables.proofs.file.numbered_record.Tie as tie
 holds-requires : tie.Need-holds-requires
 holds-requires c κs = search needs
 
-byte-at-requires : tie.Need-byte-at-requires
-byte-at-requires c κs = search needs
+byte-inside-requires : tie.Need-byte-inside-requires
+byte-inside-requires c κs = omega (arith, c .before .holds .ensures .1 (c .if1 .taken))
 
-add-byte-at : tie.Need-add-byte-at
-add-byte-at c = omega (arith, c .before .before .before .holds .ensures .1 (c .before .before .if1 .taken))
+add-byte-inside : tie.Need-add-byte-inside
+add-byte-inside c = omega (arith, c .before .before .before .holds .ensures .1 (c .before .before .if1 .taken))
 
-byte-at-requires-2 : tie.Need-byte-at-requires-2
-byte-at-requires-2 c κs = search needs
+byte-inside-requires-2 : tie.Need-byte-inside-requires-2
+byte-inside-requires-2 c κs = omega (arith, c .before .before .before .holds .ensures .1 (c .before .before .if1 .taken))
 
-add-byte-at-2 : tie.Need-add-byte-at-2
-add-byte-at-2 c = omega (arith, c .before .before .before .before .before .holds .ensures .1 (c .before .before .before .before .if1 .taken))
+add-byte-inside-2 : tie.Need-add-byte-inside-2
+add-byte-inside-2 c = omega (arith, c .before .before .before .before .before .holds .ensures .1 (c .before .before .before .before .if1 .taken))
 
-byte-at-requires-3 : tie.Need-byte-at-requires-3
-byte-at-requires-3 c κs = search needs
+byte-inside-requires-3 : tie.Need-byte-inside-requires-3
+byte-inside-requires-3 c κs = omega (arith, c .before .before .before .before .before .holds .ensures .1 (c .before .before .before .before .if1 .taken))
 
 add-t16 : tie.Need-add-t16
 add-t16 c = omega (arith, c .before .before .before .before .before .before .before .holds .ensures .1 (c .before .before .before .before .before .before .if1 .taken))
 
 returns : tie.Need-returns
-returns c = simp (flag (c .before .before .before .before .before .before .before .holds .ensures .0) (c .before .before .before .before .before .before .if1 .taken), same (c .before .before .before .before .before .byte-at .ensures .0) (c .before .before .before .before .if2 .taken), same (c .before .before .before .byte-at2 .ensures .0) (c .before .before .if3 .taken), same (c .before .byte-at3 .ensures .0) (c .if4 .taken))
+returns c = simp (flag (c .before .before .before .before .before .before .before .holds .ensures .0) (c .before .before .before .before .before .before .if1 .taken), same (c .before .before .before .before .before .byte-inside .ensures .0) (c .before .before .before .before .if2 .taken), same (c .before .before .before .byte-inside2 .ensures .0) (c .before .before .if3 .taken), same (c .before .byte-inside3 .ensures .0) (c .if4 .taken))
 
 returns-2 : tie.Need-returns-2
-returns-2 c = simp (flag (c .before .before .before .before .before .before .before .holds .ensures .0) (c .before .before .before .before .before .before .if1 .taken), same (c .before .before .before .before .before .byte-at .ensures .0) (c .before .before .before .before .if2 .taken), same (c .before .before .before .byte-at2 .ensures .0) (c .before .before .if3 .taken), other (c .before .byte-at3 .ensures .0) (c .if4 .left))
+returns-2 c = simp (flag (c .before .before .before .before .before .before .before .holds .ensures .0) (c .before .before .before .before .before .before .if1 .taken), same (c .before .before .before .before .before .byte-inside .ensures .0) (c .before .before .before .before .if2 .taken), same (c .before .before .before .byte-inside2 .ensures .0) (c .before .before .if3 .taken), other (c .before .byte-inside3 .ensures .0) (c .if4 .left))
 
 returns-3 : tie.Need-returns-3
-returns-3 c = simp (flag (c .before .before .before .before .before .holds .ensures .0) (c .before .before .before .before .if1 .taken), same (c .before .before .before .byte-at .ensures .0) (c .before .before .if2 .taken), other (c .before .byte-at2 .ensures .0) (c .if3 .left))
+returns-3 c = simp (flag (c .before .before .before .before .before .holds .ensures .0) (c .before .before .before .before .if1 .taken), same (c .before .before .before .byte-inside .ensures .0) (c .before .before .if2 .taken), other (c .before .byte-inside2 .ensures .0) (c .if3 .left))
 
 returns-4 : tie.Need-returns-4
-returns-4 c = simp (flag (c .before .before .before .holds .ensures .0) (c .before .before .if1 .taken), other (c .before .byte-at .ensures .0) (c .if2 .left))
+returns-4 c = simp (flag (c .before .before .before .holds .ensures .0) (c .before .before .if1 .taken), other (c .before .byte-inside .ensures .0) (c .if2 .left))
 
 returns-5 : tie.Need-returns-5
 returns-5 c = simp (flag (c .before .holds .ensures .0) (c .if1 .left))
@@ -45,11 +45,11 @@ numbered-record-spec =
     tie.close
     (tie.spec
     holds-requires
-    byte-at-requires
-    add-byte-at
-    byte-at-requires-2
-    add-byte-at-2
-    byte-at-requires-3
+    byte-inside-requires
+    add-byte-inside
+    byte-inside-requires-2
+    add-byte-inside-2
+    byte-inside-requires-3
     add-t16
     returns
     returns-2
