@@ -2,8 +2,8 @@
 use crate::Mixed;
 use crate::PropertiesAnswer;
 use crate::Refusal;
-use crate::properties;
 use crate::rows;
+use crate::state;
 use gerg::GergState;
 use gerg::evaluate::EvaluateAnswer;
 use gerg_fugacity::fugacity;
@@ -60,7 +60,7 @@ fn fugacity_after<'a>(
     ensures answer { λ r. ⌜ r ≡ is.fugacityAfter (tables (now (doubles .entry)) (now (integers .entry))) mixed t rho (is.evaluatedOf (tables (now (doubles .entry)) (now (integers .entry))) mixed t rho) ⌝ }
     ensures memory { λ r. ⌜ now (out .exit) ≡ is.memoryAfter (tables (now (doubles .entry)) (now (integers .entry))) mixed t rho (now (out .entry)) (is.evaluatedOf (tables (now (doubles .entry)) (now (integers .entry))) mixed t rho) ⌝ }
 {
-    match properties::evaluated(doubles, integers, mixed, t, rho) {
+    match state::evaluated(doubles, integers, mixed, t, rho) {
         EvaluateAnswer::State(s) => coefficients(doubles, integers, mixed, s, t, rho, out),
         EvaluateAnswer::Refused(number) => PropertiesAnswer::Refused { number, value: 0 },
     }

@@ -9,6 +9,7 @@ pub mod properties;
 pub mod roots;
 pub mod rows;
 pub mod saturation;
+mod state;
 
 // Rows 1 to 5: nothing refused, or document 01's number and value.
 pub enum Refusal {

@@ -3,28 +3,12 @@ use crate::Mixed;
 use crate::PropertiesAnswer;
 use crate::Refusal;
 use crate::rows;
-use gerg::evaluate;
+use crate::state;
 use gerg::evaluate::EvaluateAnswer;
-use gerg::helmholtz;
 ghost use mathlib.Core.Path.{_≡_};
 ghost use Rattle.gerg_tables.specs.Tables.{tables, Shaped};
 ghost use Rattle.gerg_api.specs.Calls as is;
 ghost use Rattle.gerg_api.specs.declared.Refusal.the-variants as refusals;
-
-// Rows 6 to 12 in the normal range.
-pub fn evaluated<'a>(
-    doubles: &'a [f64; 4086],
-    integers: &'a [u8; 1631],
-    mixed: Mixed,
-    t: f64,
-    rho: f64,
-) -> EvaluateAnswer
-    requires { ⌜ Shaped (tables (now doubles) (now integers)) ⌝ }
-    ensures { λ r. ⌜ r ≡ is.evaluatedOf (tables (now (doubles .entry)) (now (integers .entry))) mixed t rho ⌝ }
-{
-    let model = mixed.model;
-    evaluate::evaluate(doubles, integers, model, helmholtz::normal_range(), t, rho)
-}
 
 fn stated(answer: EvaluateAnswer) -> PropertiesAnswer
     ensures { λ r. ⌜ r ≡ is.statedOf answer ⌝ }
@@ -47,7 +31,7 @@ fn properties_from<'a>(
 {
     let refusal = mixed.refusal;
     match refusal {
-        Refusal::Nothing => stated(evaluated(doubles, integers, mixed, t, rho)),
+        Refusal::Nothing => stated(state::evaluated(doubles, integers, mixed, t, rho)),
         Refusal::Refused { number, value } => PropertiesAnswer::Refused { number, value },
     }
 }

@@ -1,8 +1,8 @@
--- `gerg_api::properties::evaluated` meets its contract. Assumes nothing.
+-- `gerg_api::state::evaluated` meets its contract. Assumes nothing.
 use Rattle.gerg_api.specs.Calls.{evaluatedOf}
 use borrow.Author.Needs.{needs}
-use Rattle.gerg_api.proofs.properties.evaluated.Statement.{statement}
-use Rattle.gerg_api.proofs.properties.evaluated.Tie as tie
+use Rattle.gerg_api.proofs.state.evaluated.Statement.{statement}
+use Rattle.gerg_api.proofs.state.evaluated.Tie as tie
 
 normal-range-requires : tie.Need-normal-range-requires
 normal-range-requires c κs = search needs
