@@ -1,28 +1,25 @@
 //! The archive's exports, as include/gerg.h has them, behind one function each that takes slices.
 use crate::{Mixture, Search};
 
+/// Declares exports by what each takes after the three slices that all start with.
+macro_rules! exports {
+    ($(fn $name:ident($($argument:ident: $kind:ty),*);)*) => {
+        unsafe extern "C" {
+            $(pub fn $name(
+                file: *const u8, file_len: usize, list: *const u8, list_len: usize, fractions: *const f64, fractions_len: usize,
+                $($argument: $kind),*
+            ) -> u64;)*
+        }
+    };
+}
+
 mod archive {
-    unsafe extern "C" {
-        pub fn gerg_properties(
-            file: *const u8, file_len: usize, list: *const u8, list_len: usize, fractions: *const f64, fractions_len: usize,
-            t: f64, rho: f64, out: *mut f64,
-        ) -> u64;
-        pub fn gerg_fugacity(
-            file: *const u8, file_len: usize, list: *const u8, list_len: usize, fractions: *const f64, fractions_len: usize,
-            t: f64, rho: f64, out: *mut f64, out_len: usize,
-        ) -> u64;
-        pub fn gerg_density(
-            file: *const u8, file_len: usize, list: *const u8, list_len: usize, fractions: *const f64, fractions_len: usize,
-            t: f64, target: f64, lo: f64, hi: f64, limit: u64, tolerance: f64, out: *mut f64,
-        ) -> u64;
-        pub fn gerg_outer_roots(
-            file: *const u8, file_len: usize, list: *const u8, list_len: usize, fractions: *const f64, fractions_len: usize,
-            t: f64, p: f64, out: *mut f64, out_len: usize,
-        ) -> u64;
-        pub fn gerg_pure_saturation(
-            file: *const u8, file_len: usize, list: *const u8, list_len: usize, fractions: *const f64, fractions_len: usize,
-            p: f64, lo: f64, hi: f64, limit: u64, out: *mut f64,
-        ) -> u64;
+    exports! {
+        fn gerg_properties(t: f64, rho: f64, out: *mut f64);
+        fn gerg_fugacity(t: f64, rho: f64, out: *mut f64, out_len: usize);
+        fn gerg_density(t: f64, target: f64, lo: f64, hi: f64, limit: u64, tolerance: f64, out: *mut f64);
+        fn gerg_outer_roots(t: f64, p: f64, out: *mut f64, out_len: usize);
+        fn gerg_pure_saturation(p: f64, lo: f64, hi: f64, limit: u64, out: *mut f64);
     }
 }
 
