@@ -9,7 +9,7 @@
  * No call needs anything else to hold: every byte and every double is either accepted or refused. No call keeps a pointer,
  * allocates or writes anything but `out`; calls may run at the same time in several threads.
  *
- * An empty slice has the length 0; its pointer must still not be null.
+ * An empty slice has the length 0; its pointer must still not be null. `out` must not overlap the file, the list or the fractions.
  *
  * The answer is number * 2^32 + value (gerg_number, gerg_value below). Number 0: accepted. Any other number is one of
  * enum gerg_refusal, and then `out` is as it was before the call. */

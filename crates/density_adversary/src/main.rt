@@ -1,11 +1,11 @@
 // Drives the search's step by verdicts made up to keep the bracket as wide as can be, and prints how each search ends: the number of
 // the refusal and the trials made. No search makes more than 600 trials.
-use gerg_density::Bracket;
-use gerg_density::Options;
-use gerg_density::Sample;
-use gerg_density::Search;
-use gerg_density::Stage;
-use gerg_density::Step;
+use gerg_search::Bracket;
+use gerg_search::Options;
+use gerg_search::Sample;
+use gerg_search::Search;
+use gerg_search::Stage;
+use gerg_search::Step;
 
 // How a driven search ended; number 0 is an acceptance, 255 a search that was not over after 1000 steps.
 struct Ended {
@@ -20,7 +20,7 @@ fn stiffness(lo: f64, rho: f64, part: f64) -> f64 {
 
 fn lands(lo: f64, rho: f64, part: f64) -> bool {
     let b = Bracket { lo, hi: rho };
-    gerg_density::point::inside(b, rho - 1.0 / stiffness(lo, rho, part))
+    gerg_search::point::inside(b, rho - 1.0 / stiffness(lo, rho, part))
 }
 
 // The verdict that keeps what lies below rho and sets Newton's point as little inside the margin below rho as rounding allows: nine
@@ -72,7 +72,7 @@ fn drive(lo: f64, hi: f64, limit: usize) -> Ended {
         limit,
         tolerance: 1e-10,
     };
-    let mut s = gerg_density::steps::begin(o);
+    let mut s = gerg_search::steps::begin(o);
     let mut k = 0usize;
     while k < 1000 {
         let sample = verdict(s);
@@ -83,9 +83,9 @@ fn drive(lo: f64, hi: f64, limit: usize) -> Ended {
                 trials: n,
             };
         }
-        match gerg_density::steps::advance(o, s, sample) {
+        match gerg_search::steps::advance(o, s, sample) {
             Step::Try(x) => {
-                s = gerg_density::steps::moved(s, sample, x);
+                s = gerg_search::steps::moved(s, sample, x);
             }
             Step::Accepted(_) => return Ended {
                 number: 0,

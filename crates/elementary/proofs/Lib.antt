@@ -1,8 +1,13 @@
 -- Laws of this crate that belong to no one function.
-pub mod Nan
-pub mod Signed
-pub mod Root
-pub mod Nearest
-pub mod Order
+-- ---- for the functions' proofs
+pub mod SignedIntegers
+pub mod PowerSteps
+-- the constants of exp and ln, and their tables: each is what it stands for
+pub mod ExpConstants
+pub mod ExpTableGood
+-- the whole part of exp's reduction
+pub mod ExpRange
+pub mod ExpSteps
+pub mod ExpTests
+-- ---- for the crates above
 pub mod Laws
-pub mod Special

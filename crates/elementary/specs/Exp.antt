@@ -61,14 +61,15 @@ unfoldable pub polynomialOf : Float → Float
 polynomialOf r = r ⊗ (one ⊕ r ⊗ (over2 ⊕ r ⊗ (over6 ⊕ r ⊗ (over24 ⊕ r ⊗ (over120 ⊕ r ⊗ over720)))))
 
 -- 2 ^ (n − 2048) for 1025 < n < 3072, by its exponent's field
-unfoldable pub powerOf : ℕ → Float
-powerOf n = bits ((n - 1025) * 0x10_0000_0000_0000)
+unfoldable pub scaleOf : ℕ → Float
+scaleOf n = bits ((n - 1025) * 0x10_0000_0000_0000)
 
+-- what the tests of `expOf` leave: e ^ x by the steps above
 unfoldable pub withinOf : Float → Float
 withinOf x =
     let w = countedOf x in
     let t = tableEntry (stepsOf w % 64) in
-    (t ⊕ t ⊗ polynomialOf (remainderOf x w)) ⊗ powerOf (stepsOf w / 64)
+    (t ⊕ t ⊗ polynomialOf (remainderOf x w)) ⊗ scaleOf (stepsOf w / 64)
 
 -- 700.0, and 2 ^ −54, below which e ^ x rounds to 1
 abbrev pub most : Float

@@ -1,12 +1,9 @@
 -- sinh, cosh, tanh.
 use lib.Ieee.{Float, lt, neg}
-use Rattle.numerics.specs.Double.{_⊕_, _⊖_, _⊗_, _⊘_, one, bits, pick}
+use Rattle.numerics.specs.Double.{_⊕_, _⊖_, _⊗_, _⊘_, half, one, bits, pick}
 use Rattle.elementary.specs.Exp.{expOf}
 
--- 0.5 and 20.0
-abbrev pub half : Float
-half = bits 0x3fe0_0000_0000_0000
-
+-- 20.0
 abbrev pub twenty : Float
 twenty = bits 0x4034_0000_0000_0000
 

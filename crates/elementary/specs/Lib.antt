@@ -1,43 +1,6 @@
--- The steps of the elementary functions, and the distances of exp and ln from the exact values.
--- To read: Exp with ExpTable, Ln with LnTable, Power, Sqrt, Hyperbolic are the steps that contracts name; ExpDistance and LnDistance the theorems. The other
--- modules are the proofs of these, each before those that use it.
-pub mod Match
-pub mod Signed
-pub mod Exactly
-pub mod Whole
-pub mod Bound
+-- The steps of the elementary functions, which fix the bits of each answer: the definitions that contracts name.
 pub mod ExpTable
 pub mod Exp
-pub mod ExpRange
-pub mod ExpSteps
-pub mod ExpTests
-pub mod ExpRemainder
-pub mod ExpGap
-pub mod ExpPower
-pub mod ExpTableGood
-pub mod ExpSum
-pub mod ExpFloat
-pub mod ExpBound
-pub mod ExpDistance
-pub mod LnTable
-pub mod Ln
-pub mod LnFields
-pub mod LnMatch
-pub mod LnPatterns
-pub mod LnDistanceTwo
-pub mod LnDistanceStep
-pub mod LnDistanceTable
-pub mod LnDistancePolynomial
-pub mod LnDistanceRatio
-pub mod LnDistanceSignificand
-pub mod LnDistanceExact
-pub mod LnDistanceError
-pub mod LnDistanceSigns
-pub mod LnDistanceSum
-pub mod LnDistanceParts
-pub mod LnDistanceDouble
-pub mod LnLaws
-pub mod LnDistance
+pub mod Range
 pub mod Power
-pub mod Sqrt
 pub mod Hyperbolic

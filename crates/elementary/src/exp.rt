@@ -2,8 +2,8 @@
 ghost use Prim.Native.Nat.{_<_, _≤_};
 ghost use mathlib.Core.Path.{_≡_};
 ghost use Rattle.elementary.specs.ExpTable.{tableEntry};
-ghost use Rattle.elementary.specs.ExpSteps.{InRange};
-ghost use Rattle.elementary.specs.Exp.{polynomialOf, remainderOf, powerOf, withinOf, expOf};
+ghost use Rattle.elementary.specs.Exp.{polynomialOf, remainderOf, scaleOf, withinOf, expOf};
+ghost use Rattle.elementary.specs.Range.{InRange};
 
 // 2 ^ (j / 64): the constants of a match stand in constant memory, an array's would be copied at each call.
 fn table_entry(j: u64) -> f64
@@ -101,7 +101,7 @@ fn remainder(x: f64, w: f64) -> f64
 fn power(n: u64) -> f64
     requires { ⌜ 1025 < n ⌝ }
     requires { ⌜ n < 3072 ⌝ }
-    ensures { λ r. ⌜ r ≡ powerOf n ⌝ }
+    ensures { λ r. ⌜ r ≡ scaleOf n ⌝ }
 {
     f64::from_bits((n - 1025) * 0x10_0000_0000_0000)
 }
@@ -117,7 +117,7 @@ fn within(x: f64) -> f64
     (t + t * p) * power(u / 64)
 }
 
-// e ^ x: within 2 ^ -46 of it for x from -700 to 700
+// e ^ x: within 2 ^ -48 of it, relatively, for x from -700 to 700 (elementary_distance)
 pub fn exp(x: f64) -> f64
     ensures { λ v. ⌜ v ≡ expOf x ⌝ }
 {

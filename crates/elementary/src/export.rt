@@ -2,15 +2,15 @@
 
 ghost use mathlib.Core.Path.{_≡_};
 ghost use Rattle.elementary.specs.Exp.{expOf};
-ghost use Rattle.elementary.specs.Ln.{lnOf};
-ghost use Rattle.elementary.specs.Sqrt.{sqrtOf};
+ghost use Rattle.elementary_ln.specs.Ln.{lnOf};
+ghost use Rattle.elementary_sqrt.specs.Sqrt.{sqrtOf};
 ghost use Rattle.elementary.specs.Power.{powfOf, powiOf};
 ghost use Rattle.elementary.specs.Hyperbolic.{sinhOf, coshOf, tanhOf};
 use crate::exp;
 use crate::hyperbolic;
-use crate::ln;
 use crate::power;
-use crate::sqrt;
+use elementary_ln::ln;
+use elementary_sqrt::sqrt;
 
 // The value as it is, with one pattern for every NaN: the quotient of literals, which the compiler folds to 0x7FF8000000000000.
 pub fn quieted(x: f64) -> f64

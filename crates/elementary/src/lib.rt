@@ -3,6 +3,4 @@
 pub mod exp;
 pub mod export;
 pub mod hyperbolic;
-pub mod ln;
 pub mod power;
-pub mod sqrt;

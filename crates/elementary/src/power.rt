@@ -6,7 +6,7 @@ ghost use lib.Ieee.{ofInt, binary64};
 ghost use Rattle.numerics.specs.Fill.{tabulate};
 ghost use Rattle.elementary.specs.Power.{powfOf, powfFrom, powerOf, powiOf, powiByteOf, signedOf};
 use crate::exp;
-use crate::ln;
+use elementary_ln::ln;
 
 // x to the power t.
 pub fn powf(x: f64, t: f64) -> f64

@@ -5,14 +5,15 @@ use lib.Ieee.{Float, le, eq, neg}
 use lib.Ieee.Scale.{finite}
 use Rattle.numerics.specs.Double.{_⊕_, _⊖_, _⊗_, _⊘_, bits, +0, one, two, pick}
 use Rattle.elementary.specs.Power.{powiByteOf}
-use Rattle.elementary.specs.Sqrt.{sqrtOf}
+use Rattle.elementary_sqrt.specs.Sqrt.{sqrtOf}
 use Rattle.gerg_tables.specs.declared.Tables.{Tables}
 use Rattle.gerg_model.specs.declared.GergModel.{GergModel}
 use Rattle.gerg.specs.declared.GergState.{GergState}
 use Rattle.gerg.specs.declared.Range.{Range}
-use Rattle.gerg.specs.declared.derivatives.GergDerivatives.{GergDerivatives}
+use Rattle.gerg_terms.specs.declared.derivatives.GergDerivatives.{GergDerivatives}
 use Rattle.gerg.specs.declared.helmholtz.HelmholtzAnswer.{HelmholtzAnswer}
 use Rattle.gerg.specs.declared.helmholtz.HelmholtzAnswer.the-variants as derived
+use Rattle.gerg.specs.declared.evaluate.Parts.{Parts}
 use Rattle.gerg.specs.declared.evaluate.EvaluateAnswer.{EvaluateAnswer}
 use Rattle.gerg.specs.declared.evaluate.EvaluateAnswer.the-variants.{State, Refused}
 use Rattle.gerg.specs.Helmholtz.{helmholtzOf}
@@ -56,37 +57,41 @@ entropyOf a = gasConstant ⊗ (a .«a0_t» ⊕ a .«ar_t» ⊖ a .a0 ⊖ a .ar)
 unfoldable pub speedOfSoundOf : Float → Float → Float → Float → Float
 speedOfSoundOf cp cv stiffness mass = sqrtOf (cp ⊘ cv ⊗ stiffness ⊘ mass)
 
--- "The properties are the numbers in `GergState`", made of those that several of them use
-unfoldable pub stateFrom : GergDerivatives → Float → Float → Float → Float → Float → Float → Float → Float → Float → Float → GergState
-stateFrom a temperature rho mass pressure stiffness slope cv cp energy helmholtz = record {
+-- what several properties are made of
+unfoldable pub partsOf : GergDerivatives → Float → Float → Parts
+partsOf a temperature rho = record {
+  pressure = pressureOf a temperature rho;
+  stiffness = stiffnessOf a temperature;
+  slope = pressureSlopeOf a rho;
+  cv = cvOf a;
+  cp = cpOf temperature rho (cvOf a) (pressureSlopeOf a rho) (stiffnessOf a temperature);
+  «internal_energy» = internalEnergyOf a temperature;
+  «helmholtz_energy» = helmholtzEnergyOf a temperature;
+}
+
+-- "The properties are the numbers in `GergState`", made of these
+unfoldable pub stateFrom : GergDerivatives → Float → Float → Float → Parts → GergState
+stateFrom a temperature rho mass p = record {
   «temperature_k» = temperature;
   «molar_density» = rho;
   «mass_density» = rho ⊗ mass;
-  «pressure_pa» = pressure;
+  «pressure_pa» = p .pressure;
   compressibility = compressibilityOf a;
-  «dp_drho» = stiffness;
-  «dp_dt» = slope;
-  «internal_energy» = energy;
-  enthalpy = energy ⊕ pressure ⊘ rho;
+  «dp_drho» = p .stiffness;
+  «dp_dt» = p .slope;
+  «internal_energy» = p .«internal_energy»;
+  enthalpy = p .«internal_energy» ⊕ p .pressure ⊘ rho;
   entropy = entropyOf a;
-  cv = cv;
-  cp = cp;
-  «speed_of_sound» = speedOfSoundOf cp cv stiffness mass;
-  «helmholtz_energy» = helmholtz;
-  «gibbs_energy» = helmholtz ⊕ pressure ⊘ rho;
+  cv = p .cv;
+  cp = p .cp;
+  «speed_of_sound» = speedOfSoundOf (p .cp) (p .cv) (p .stiffness) mass;
+  «helmholtz_energy» = p .«helmholtz_energy»;
+  «gibbs_energy» = p .«helmholtz_energy» ⊕ p .pressure ⊘ rho;
   derivatives = a;
 }
 
 unfoldable pub stateOf : GergDerivatives → Float → Float → Float → GergState
-stateOf a temperature rho mass =
-    stateFrom a temperature rho mass
-    (pressureOf a temperature rho)
-    (stiffnessOf a temperature)
-    (pressureSlopeOf a rho)
-    (cvOf a)
-    (cpOf temperature rho (cvOf a) (pressureSlopeOf a rho) (stiffnessOf a temperature))
-    (internalEnergyOf a temperature)
-    (helmholtzEnergyOf a temperature)
+stateOf a temperature rho mass = stateFrom a temperature rho mass (partsOf a temperature rho)
 
 -- row 12: "cp, internal or Helmholtz energy, speed of sound, stiffness or dp/dT of a state .. nonfinite"
 unfoldable pub finiteState : GergState → Bool

@@ -1,10 +1,6 @@
--- What the equation gives, in document 01's order.
-pub mod Derivatives
+-- Rows 6 to 12 and the properties of a state, in document 01's order.
 pub mod Helmholtz
-pub mod Isotherm
-pub mod HelmholtzPowers
-pub mod IsothermLaws
-pub mod IsothermReads
+pub mod HelmholtzNumbers
 pub mod Evaluate
-pub mod HelmholtzCases
-pub mod EvaluateLaws
+pub mod EvaluateNumbers
+pub mod Answered

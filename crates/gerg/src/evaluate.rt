@@ -1,17 +1,17 @@
 // The properties of a homogeneous state, and rows 6 to 12.
 use crate::GergState;
 use crate::Range;
-use crate::derivatives::GergDerivatives;
 use crate::helmholtz;
 use crate::helmholtz::HelmholtzAnswer;
-use crate::isotherm;
 use elementary::power;
-use elementary::sqrt;
+use elementary_sqrt::sqrt;
+use gerg_isotherm::isotherm;
 use gerg_model::GergModel;
 use gerg_model::mixture::is_finite;
+use gerg_terms::derivatives::GergDerivatives;
 ghost use mathlib.Core.Path.{_≡_};
 ghost use Rattle.gerg_tables.specs.Tables.{tables, Shaped};
-ghost use Rattle.gerg.specs.Isotherm.{isothermOf};
+ghost use Rattle.gerg_isotherm.specs.Isotherm.{isothermOf};
 ghost use Rattle.gerg.specs.Evaluate as is;
 
 // The gas constant of the equation, J/(mol K).
@@ -84,46 +84,19 @@ fn speed_of_sound(cp: f64, cv: f64, stiffness: f64, mass: f64) -> f64
     sqrt::sqrt(cp / cv * stiffness / mass)
 }
 
-fn state_from(
-    a: GergDerivatives,
-    temperature: f64,
-    rho: f64,
-    mass: f64,
-    pressure: f64,
-    stiffness: f64,
-    slope: f64,
-    cv: f64,
-    cp: f64,
-    energy: f64,
-    helmholtz: f64,
-) -> GergState
-    ensures { λ r. ⌜ r ≡ is.stateFrom a temperature rho mass pressure stiffness slope cv cp energy helmholtz ⌝ }
-{
-    let z = compressibility(a);
-    let s = entropy(a);
-    let sound = speed_of_sound(cp, cv, stiffness, mass);
-    GergState {
-        temperature_k: temperature,
-        molar_density: rho,
-        mass_density: rho * mass,
-        pressure_pa: pressure,
-        compressibility: z,
-        dp_drho: stiffness,
-        dp_dt: slope,
-        internal_energy: energy,
-        enthalpy: energy + pressure / rho,
-        entropy: s,
-        cv: cv,
-        cp: cp,
-        speed_of_sound: sound,
-        helmholtz_energy: helmholtz,
-        gibbs_energy: helmholtz + pressure / rho,
-        derivatives: a,
-    }
+// What several properties are made of.
+pub struct Parts {
+    pub pressure: f64,
+    pub stiffness: f64,
+    pub slope: f64,
+    pub cv: f64,
+    pub cp: f64,
+    pub internal_energy: f64,
+    pub helmholtz_energy: f64,
 }
 
-fn state_of(a: GergDerivatives, temperature: f64, rho: f64, mass: f64) -> GergState
-    ensures { λ r. ⌜ r ≡ is.stateOf a temperature rho mass ⌝ }
+fn parts_of(a: GergDerivatives, temperature: f64, rho: f64) -> Parts
+    ensures { λ r. ⌜ r ≡ is.partsOf a temperature rho ⌝ }
 {
     let p = pressure(a, temperature, rho);
     let pd = stiffness(a, temperature);
@@ -132,7 +105,48 @@ fn state_of(a: GergDerivatives, temperature: f64, rho: f64, mass: f64) -> GergSt
     let cp = cp(temperature, rho, c, pt, pd);
     let u = internal_energy(a, temperature);
     let h = helmholtz_energy(a, temperature);
-    state_from(a, temperature, rho, mass, p, pd, pt, c, cp, u, h)
+    Parts {
+        pressure: p,
+        stiffness: pd,
+        slope: pt,
+        cv: c,
+        cp,
+        internal_energy: u,
+        helmholtz_energy: h,
+    }
+}
+
+fn state_from(a: GergDerivatives, temperature: f64, rho: f64, mass: f64, p: Parts) -> GergState
+    ensures { λ r. ⌜ r ≡ is.stateFrom a temperature rho mass p ⌝ }
+{
+    let z = compressibility(a);
+    let s = entropy(a);
+    let sound = speed_of_sound(p.cp, p.cv, p.stiffness, mass);
+    GergState {
+        temperature_k: temperature,
+        molar_density: rho,
+        mass_density: rho * mass,
+        pressure_pa: p.pressure,
+        compressibility: z,
+        dp_drho: p.stiffness,
+        dp_dt: p.slope,
+        internal_energy: p.internal_energy,
+        enthalpy: p.internal_energy + p.pressure / rho,
+        entropy: s,
+        cv: p.cv,
+        cp: p.cp,
+        speed_of_sound: sound,
+        helmholtz_energy: p.helmholtz_energy,
+        gibbs_energy: p.helmholtz_energy + p.pressure / rho,
+        derivatives: a,
+    }
+}
+
+fn state_of(a: GergDerivatives, temperature: f64, rho: f64, mass: f64) -> GergState
+    ensures { λ r. ⌜ r ≡ is.stateOf a temperature rho mass ⌝ }
+{
+    let parts = parts_of(a, temperature, rho);
+    state_from(a, temperature, rho, mass, parts)
 }
 
 fn finite_state(s: GergState) -> bool

@@ -1,12 +1,8 @@
 // GERG-2008: the Helmholtz derivatives of a mixture, and its properties.
-pub mod departure;
-pub mod derivatives;
 pub mod evaluate;
 pub mod helmholtz;
-pub mod ideal;
-pub mod isotherm;
-pub mod powers;
-pub mod pure;
+
+use gerg_terms::derivatives::GergDerivatives;
 
 // The ends of the range in which the equation is used.
 pub struct Range {
@@ -37,5 +33,5 @@ pub struct GergState {
     pub speed_of_sound: f64,
     pub helmholtz_energy: f64,
     pub gibbs_energy: f64,
-    pub derivatives: derivatives::GergDerivatives,
+    pub derivatives: GergDerivatives,
 }

@@ -1,30 +1,46 @@
 -- The cases of document 01 that are proved about the definitions, gathered into one table and one theorem. Assumes nothing.
-use mathlib.Core.Path.{_≡_}
-use mathlib.Core.List.{[], _∷_}
+use mathlib.Core.Path.{_≡_, ap, _∙_}
+use mathlib.Core.List.{List, [], _∷_}
+use Prim.Native.Nat.{ℕ}
+use native.Mathlib.Omega.{arith}
 use lib.Ieee.{Float, nan, neg}
 use lib.ListN.{getD}
 use Rattle.numerics.specs.Double.{bits, +0, one, two}
 use Rattle.elementary.specs.Exp.{expOf}
-use Rattle.elementary.specs.Ln.{lnOf}
-use Rattle.elementary.specs.Sqrt.{sqrtOf}
-use Rattle.elementary.specs.LnLaws.{ln-one}
-use Rattle.elementary.proofs.Laws.{exp-zero, exp-minus-zero, sqrt-four}
+use Rattle.elementary_ln.specs.Ln.{lnOf}
+use Rattle.elementary_sqrt.specs.Sqrt.{sqrtOf}
+use Rattle.elementary.proofs.Laws.{exp-zero, exp-minus-zero}
+use Rattle.elementary_ln.proofs.LnLaws.{ln-one}
+use Rattle.elementary_sqrt.proofs.SqrtLaws.{sqrt-four}
 use Rattle.gerg_tables.specs.declared.Tables.{Tables}
-use Rattle.gerg_tables.specs.declared.Answer.the-variants as file
-use Rattle.gerg_tables.specs.Answer.{answerOf}
-use Rattle.gerg_tables.proofs.Examples.{empty-file}
+use Rattle.gerg_tables.specs.Answer as File
+use Rattle.gerg_tables.specs.Answer.{answerOf, tablesOf}
+use Rattle.gerg_tables.proofs.Examples.{empty-file-number, empty-file-value}
 use Rattle.gerg_model.specs.declared.GergModel.{GergModel}
-use Rattle.gerg_model.specs.Mixture.{byComponent, gradientsOf, modelOf}
-use Rattle.gerg_model.specs.MixtureCases.{equalTables, pure-density, pure-temperature, pure-gradient, halves-density}
-use Rattle.gerg.specs.declared.derivatives.GergDerivatives.{GergDerivatives}
+use Rattle.gerg_model.specs.Mixture.{byComponent, modelOf}
+use Rattle.gerg_reducing.specs.Reducing.{gradientsOf}
+use Rattle.gerg_model_cases.specs.Cases.{equalTables}
+use Rattle.gerg_model_cases.proofs.Cases.{pure-density, pure-temperature, pure-gradient, halves-density}
+use Rattle.gerg_terms.specs.declared.derivatives.GergDerivatives.{GergDerivatives}
 use Rattle.gerg.specs.declared.helmholtz.HelmholtzAnswer.the-variants as derived
-use Rattle.gerg.specs.Derivatives.{zeroDerivatives, termOf, term-case}
-use Rattle.gerg.specs.Helmholtz.{helmholtzOf, normalRange, checkedOf, componentsOf, deltaOf, tauOf}
-use Rattle.gerg.specs.HelmholtzCases.{T200, below200, passes-200, below-200, density-first}
-use Rattle.gerg_density.specs.declared.Sample.{Sample}
-use Rattle.gerg_density.specs.declared.Outcome.the-variants as outcome
-use Rattle.gerg_density.specs.Run.{outcomeOf}
-use Rattle.gerg_density.specs.Cases.{empty, case-13}
+use Rattle.gerg_terms.specs.Derivatives.{zeroDerivatives, termOf}
+use Rattle.gerg_terms.proofs.Laws.Cases.{term-case}
+use Rattle.gerg_model.specs.Mixture.{deltaOf, tauOf}
+use Rattle.gerg_terms.specs.Terms.{componentsOf}
+use Rattle.gerg.specs.Helmholtz.{helmholtzOf, normalRange, checkedOf}
+use Rattle.gerg.proofs.Laws.Cases.{passes-200, below-200, density-first}
+use Rattle.gerg_density.specs.Cases.{emptyAt}
+use Rattle.gerg_density.specs.DensityNumbers as ofDensity
+use Rattle.gerg_density.proofs.Laws.Cases.{case-13}
+use Rattle.gerg_prepared.specs.Mixed as ofRows
+use Rattle.gerg_prepared.specs.Mixed.{mixedOf}
+use Rattle.gerg_prepared.specs.declared.Refusal.the-variants.{Refused}
+use Rattle.gerg_answers.specs.PropertiesNumbers as ofProperties
+use Rattle.gerg_api.specs.Calls.{propertiesOf, densityCall}
+use Rattle.gerg_api.specs.Promised.{Prepared}
+use Rattle.gerg_api.proofs.Laws.After.{density-answer}
+use Rattle.gerg_api.proofs.Laws.Below.{nothing-refused, file-rows}
+use Rattle.gerg_api.proofs.Promises.Refusals.{properties-rows}
 
 pub record Cases : Type 0 where
   -- "exp 0 = 1; ln 1 = 0; sqrt 4 = 2"
@@ -56,13 +72,38 @@ pub record Cases : Type 0 where
   -- "T 200 passes, the double below is 8; density −1 at T 100 is 7"
   pub t-200 :
       (t : Tables) (m : GergModel) →
-      helmholtzOf t m normalRange T200 one ≡ checkedOf (componentsOf t (m .fractions) T200 one (deltaOf m one) (tauOf m T200) zeroDerivatives)
-  pub t-below-200 : (t : Tables) (m : GergModel) → helmholtzOf t m normalRange below200 one ≡ derived.Refused 8
+      helmholtzOf t m normalRange (bits 0x4069_0000_0000_0000) one ≡ checkedOf (componentsOf t (m .fractions) (bits 0x4069_0000_0000_0000) one (deltaOf m one) (tauOf m (bits 0x4069_0000_0000_0000)) zeroDerivatives)
+  pub t-below-200 : (t : Tables) (m : GergModel) → helmholtzOf t m normalRange (bits 0x4068_ffff_ffff_ffff) one ≡ derived.Refused 8
   pub density-minus-1 : (t : Tables) (m : GergModel) → helmholtzOf t m normalRange (bits 0x4059_0000_0000_0000) (neg one) ≡ derived.Refused 7
   -- "lo = hi, limit 0, tolerance 0: 13"
-  pub no-bracket : (high target x : Float) (v : Float → Sample) → outcomeOf high target (empty x) v ≡ outcome.Failed 13 0
+  pub no-bracket :
+      (bytes list : List ℕ) (fractions : List Float) (temperature target x : Float) → Prepared bytes list fractions →
+      (ofDensity.numberOf (densityCall bytes list fractions temperature target (emptyAt x)) ≡ 13) × (ofDensity.valueOf (densityCall bytes list fractions temperature target (emptyAt x)) ≡ 0)
   -- "empty file: 1 at 0"
-  pub no-file : answerOf [] ≡ file.Refused 0
+  pub no-file :
+      (list : List ℕ) (fractions : List Float) (temperature rho : Float) →
+      (ofProperties.numberOf (propertiesOf [] list fractions temperature rho) ≡ 1) × (ofProperties.valueOf (propertiesOf [] list fractions temperature rho) ≡ 0)
+
+bracket-case :
+    (bytes list : List ℕ) (fractions : List Float) (temperature target x : Float) → Prepared bytes list fractions →
+    (ofDensity.numberOf (densityCall bytes list fractions temperature target (emptyAt x)) ≡ 13) × (ofDensity.valueOf (densityCall bytes list fractions temperature target (emptyAt x)) ≡ 0)
+bracket-case bytes list fractions temperature target x n =
+    let e = density-answer bytes list fractions temperature target (emptyAt x) (nothing-refused bytes list fractions n) in
+    let c = case-13 (tablesOf bytes) (mixedOf bytes list fractions .model) normalRange temperature target x in
+    (ap ofDensity.numberOf e ∙ c .0, ap ofDensity.valueOf e ∙ c .1)
+
+file-case :
+    (list : List ℕ) (fractions : List Float) (temperature rho : Float) →
+    (ofProperties.numberOf (propertiesOf [] list fractions temperature rho) ≡ 1) × (ofProperties.valueOf (propertiesOf [] list fractions temperature rho) ≡ 0)
+file-case list fractions temperature rho =
+    let e = properties-rows [] list fractions (one (ofRows.numberOf (mixedOf [] list fractions .refusal)) (ap ofRows.numberOf rows ∙ empty-file-number)) temperature rho in
+    (ap ofProperties.numberOf e ∙ ap ofRows.numberOf rows ∙ empty-file-number, ap ofProperties.valueOf e ∙ ap ofRows.valueOf rows ∙ empty-file-value)
+  where
+    one : (n : ℕ) → n ≡ 1 → n ≡ 0 → ⊥
+    one n a b = omega arith
+
+    rows : mixedOf [] list fractions .refusal ≡ Refused (File.numberOf (answerOf [])) (File.valueOf (answerOf []))
+    rows = file-rows [] list fractions (one (File.numberOf (answerOf [])) empty-file-number)
 
 pub cases : Cases
 cases = record {
@@ -78,6 +119,6 @@ cases = record {
   t-200 = passes-200;
   t-below-200 = below-200;
   density-minus-1 = density-first;
-  no-bracket = case-13;
-  no-file = empty-file;
+  no-bracket = bracket-case;
+  no-file = file-case;
 }

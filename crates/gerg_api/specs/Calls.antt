@@ -1,10 +1,9 @@
--- What the public calls answer and write.
-use mathlib.Core.List.{List, [], _∷_, _++_}
+-- What the calls `properties`, `fugacity` and `density` answer and write.
+use mathlib.Core.List.{List, [], _∷_}
 use mathlib.Core.Bool.{Bool}
-use Prim.Native.Nat.{ℕ, _+_, _*_, _%_, _^_}
+use Prim.Native.Nat.{ℕ}
 use lib.Dec.{ltb}
-use lib.IntN.{pos}
-use lib.Ieee.{Float, binary64, ofInt}
+use lib.Ieee.{Float}
 use lib.ListN.{length}
 use Rattle.numerics.specs.Double.{pick}
 use Rattle.gerg_tables.specs.declared.Tables.{Tables}
@@ -12,39 +11,33 @@ use Rattle.gerg_tables.specs.Answer.{tablesOf}
 use Rattle.gerg.specs.declared.GergState.{GergState}
 use Rattle.gerg.specs.declared.evaluate.EvaluateAnswer.{EvaluateAnswer}
 use Rattle.gerg.specs.declared.evaluate.EvaluateAnswer.the-variants as evaluated
+use Rattle.gerg.specs.EvaluateNumbers as ofEvaluate
 use Rattle.gerg_fugacity.specs.declared.fugacity.FugacityCheck.{FugacityCheck}
 use Rattle.gerg_fugacity.specs.declared.fugacity.FugacityCheck.the-variants as coefficients
+use Rattle.gerg_fugacity.specs.FugacityNumbers as ofFugacity
 use Rattle.gerg.specs.Helmholtz.{normalRange}
 use Rattle.gerg.specs.Evaluate.{evaluateOf}
 use Rattle.gerg_fugacity.specs.Fugacity.{fugacityOf, fugacityMemory}
 use Rattle.gerg_density.specs.declared.DensityAnswer.{DensityAnswer}
 use Rattle.gerg_density.specs.declared.DensityAnswer.the-variants as density
-use Rattle.gerg_density.specs.declared.DensityResult.{DensityResult}
-use Rattle.gerg_density.specs.declared.Options.{Options}
+use Rattle.gerg_search.specs.declared.Options.{Options}
 use Rattle.gerg_density.specs.Density.{densityOf}
-use Rattle.gerg_api.specs.Mixed.{mixedOf}
-use Rattle.gerg_api.specs.declared.Mixed.{Mixed}
-use Rattle.gerg_api.specs.declared.Refusal.{Refusal}
-use Rattle.gerg_api.specs.declared.Refusal.the-variants.{Nothing, Refused}
-use Rattle.gerg_api.specs.declared.PropertiesAnswer.{PropertiesAnswer}
-use Rattle.gerg_api.specs.declared.PropertiesAnswer.the-variants as answer
+use Rattle.gerg_prepared.specs.Mixed.{mixedOf, afterRows, memoryRows}
+use Rattle.gerg_prepared.specs.declared.Mixed.{Mixed}
+use Rattle.gerg_answers.specs.declared.PropertiesAnswer.{PropertiesAnswer}
+use Rattle.gerg_answers.specs.declared.PropertiesAnswer.the-variants as answer
 
--- rows 1 to 5, then what follows
-unfoldable pub afterRows : Refusal → PropertiesAnswer → PropertiesAnswer
-afterRows Nothing later = later
-afterRows (Refused number value) later = answer.Refused number value
-
--- "The value is 0 unless given"
+-- a state, or the number and value of its refusal
 unfoldable pub statedOf : EvaluateAnswer → PropertiesAnswer
 statedOf (evaluated.State s) = answer.State s
-statedOf (evaluated.Refused number) = answer.Refused number 0
+statedOf (evaluated.Refused number) = let e = evaluated.Refused number in answer.Refused (ofEvaluate.numberOf e) (ofEvaluate.valueOf e)
 
 -- rows 6 to 12 in the normal range
 unfoldable pub evaluatedOf : Tables → Mixed → Float → Float → EvaluateAnswer
 evaluatedOf t m temperature rho = evaluateOf t (m .model) normalRange temperature rho
 
 unfoldable pub propertiesFrom : Tables → Mixed → Float → Float → PropertiesAnswer
-propertiesFrom t m temperature rho = afterRows (m .refusal) (statedOf (evaluatedOf t m temperature rho))
+propertiesFrom t m temperature rho = afterRows answer.Refused (m .refusal) (statedOf (evaluatedOf t m temperature rho))
 
 -- the call `properties`
 unfoldable pub propertiesOf : List ℕ → List ℕ → List Float → Float → Float → PropertiesAnswer
@@ -54,14 +47,14 @@ propertiesOf bytes list fractions temperature rho = propertiesFrom (tablesOf byt
 abbrev pub gradientRows : Mixed → List (List Float)
 gradientRows m = m .«volume_gradient» ∷ m .«temperature_gradient» ∷ []
 
--- a state's coefficients: the state, or row 12
+-- a state's coefficients: the state, or the number and value of their refusal (row 12)
 unfoldable pub withCoefficients : GergState → FugacityCheck → PropertiesAnswer
 withCoefficients s coefficients.Sound = answer.State s
-withCoefficients s (coefficients.Refused number value) = answer.Refused number value
+withCoefficients s (coefficients.Refused number value) = let c = coefficients.Refused number value in answer.Refused (ofFugacity.numberOf c) (ofFugacity.valueOf c)
 
 unfoldable pub fugacityAfter : Tables → Mixed → Float → Float → EvaluateAnswer → PropertiesAnswer
 fugacityAfter t m temperature rho (evaluated.State s) = withCoefficients s (fugacityOf t (m .model) (gradientRows m) s temperature rho)
-fugacityAfter t m temperature rho (evaluated.Refused number) = answer.Refused number 0
+fugacityAfter t m temperature rho (evaluated.Refused number) = statedOf (evaluated.Refused number)
 
 unfoldable pub memoryAfter : Tables → Mixed → Float → Float → List Float → EvaluateAnswer → List Float
 memoryAfter t m temperature rho out (evaluated.State s) = fugacityMemory t (m .model) (gradientRows m) s temperature rho out
@@ -74,14 +67,10 @@ tooShort m out = ltb (length out) (m .model .components)
 -- "Number 24 is tested right after row 5 for fugacity"
 unfoldable pub fugacityFrom : Tables → Mixed → Float → Float → List Float → PropertiesAnswer
 fugacityFrom t m temperature rho out =
-    afterRows (m .refusal)
+    afterRows answer.Refused (m .refusal)
     (pick (tooShort m out) (answer.Refused 24 (m .model .components)) (fugacityAfter t m temperature rho (evaluatedOf t m temperature rho)))
 
 -- "Every row leaves all lent memory as it was"
-unfoldable pub memoryRows : Refusal → List Float → List Float → List Float
-memoryRows Nothing out later = later
-memoryRows (Refused number value) out later = out
-
 unfoldable pub memoryFrom : Tables → Mixed → Float → Float → List Float → List Float
 memoryFrom t m temperature rho out =
     memoryRows (m .refusal) out (pick (tooShort m out) out (memoryAfter t m temperature rho out (evaluatedOf t m temperature rho)))
@@ -93,48 +82,13 @@ fugacityAnswer bytes list fractions temperature rho out = fugacityFrom (tablesOf
 unfoldable pub fugacityWritten : List ℕ → List ℕ → List Float → Float → Float → List Float → List Float
 fugacityWritten bytes list fractions temperature rho out = memoryFrom (tablesOf bytes) (mixedOf bytes list fractions) temperature rho out
 
--- the C exports: number × 2^32 + value, 0 when accepted; every value of document 01's table is below 2^32
-unfoldable pub codeOf : ℕ → ℕ → ℕ
-codeOf number value = number * 2 ^ 32 + value % 2 ^ 32
-
-unfoldable pub propertiesCode : PropertiesAnswer → ℕ
-propertiesCode (answer.State s) = 0
-propertiesCode (answer.Refused number value) = codeOf number value
-
--- the 24 numbers of a state, in the order of `GergState` and `GergDerivatives`
-unfoldable pub numbersOf : GergState → List Float
-numbersOf s =
-    s .«temperature_k» ∷ s .«molar_density» ∷ s .«mass_density» ∷ s .«pressure_pa» ∷ s .compressibility ∷ s .«dp_drho» ∷ s .«dp_dt»
-    ∷ s .«internal_energy» ∷ s .enthalpy ∷ s .entropy ∷ s .cv ∷ s .cp ∷ s .«speed_of_sound» ∷ s .«helmholtz_energy» ∷ s .«gibbs_energy»
-    ∷ s .derivatives .ar ∷ s .derivatives .«ar_d» ∷ s .derivatives .«ar_dd» ∷ s .derivatives .«ar_t» ∷ s .derivatives .«ar_tt»
-    ∷ s .derivatives .«ar_dt» ∷ s .derivatives .a0 ∷ s .derivatives .«a0_t» ∷ s .derivatives .«a0_tt» ∷ []
-
--- what an answer leaves in 24 lent doubles: a state's numbers, and what was lent for a refusal
-unfoldable pub propertiesWritten : PropertiesAnswer → List Float → List Float
-propertiesWritten (answer.State s) out = numbersOf s
-propertiesWritten (answer.Refused number value) out = out
+-- the options of a C caller
+abbrev pub optionsOf : Float → Float → ℕ → Float → Options
+optionsOf lo hi limit tolerance = record { bracket = record { lo = lo; hi = hi }; limit = limit; tolerance = tolerance }
 
 -- the call `density`: rows 1 to 5, then the search in the normal range
-unfoldable pub searchedAfter : Refusal → DensityAnswer → DensityAnswer
-searchedAfter Nothing later = later
-searchedAfter (Refused number value) later = density.Refused number value
-
 unfoldable pub densityFrom : Tables → Mixed → Float → Float → Options → DensityAnswer
-densityFrom t m temperature target options = searchedAfter (m .refusal) (densityOf t (m .model) normalRange temperature target options)
+densityFrom t m temperature target options = afterRows density.Refused (m .refusal) (densityOf t (m .model) normalRange temperature target options)
 
 unfoldable pub densityCall : List ℕ → List ℕ → List Float → Float → Float → Options → DensityAnswer
 densityCall bytes list fractions temperature target options = densityFrom (tablesOf bytes) (mixedOf bytes list fractions) temperature target options
-
-unfoldable pub densityCode : DensityAnswer → ℕ
-densityCode (density.Accepted r) = 0
-densityCode (density.Refused number value) = codeOf number value
-
--- the state's 24 numbers, the residual, the trials, the first bracket, the last bracket
-unfoldable pub densityNumbers : DensityResult → List Float
-densityNumbers r =
-    numbersOf (r .state)
-    ++ (r .residual ∷ ofInt binary64 (pos (r .trials)) ∷ r .first .lo ∷ r .first .hi ∷ r .last .lo ∷ r .last .hi ∷ [])
-
-unfoldable pub densityWritten : DensityAnswer → List Float → List Float
-densityWritten (density.Accepted r) out = densityNumbers r
-densityWritten (density.Refused number value) out = out

@@ -1,21 +1,21 @@
 // The call `fugacity`.
-use crate::Mixed;
-use crate::PropertiesAnswer;
-use crate::Refusal;
-use crate::rows;
 use crate::state;
 use gerg::GergState;
 use gerg::evaluate::EvaluateAnswer;
+use gerg_answers::PropertiesAnswer;
 use gerg_fugacity::fugacity;
 use gerg_fugacity::fugacity::FugacityCheck;
+use gerg_prepared::Mixed;
+use gerg_prepared::Refusal;
+use gerg_prepared::rows;
 ghost use mathlib.Core.Path.{_≡_};
 ghost use Prim.Native.Nat.{_≤_};
 ghost use lib.ListN.{length};
 ghost use Rattle.gerg_tables.specs.Tables.{tables, Shaped};
-ghost use Rattle.gerg_model.specs.Mixture.{Listed};
+ghost use Rattle.gerg_model.specs.Listed.{Listed};
 ghost use Rattle.gerg_fugacity.specs.Fugacity.{fugacityOf, fugacityMemory};
 ghost use Rattle.gerg_api.specs.Calls as is;
-ghost use Rattle.gerg_api.specs.declared.Refusal.the-variants as refusals;
+ghost use Rattle.gerg_prepared.specs.declared.Refusal.the-variants as refusals;
 
 fn with_coefficients(s: GergState, check: FugacityCheck) -> PropertiesAnswer
     ensures { λ r. ⌜ r ≡ is.withCoefficients s check ⌝ }

@@ -1,14 +1,14 @@
 // The call `properties`.
-use crate::Mixed;
-use crate::PropertiesAnswer;
-use crate::Refusal;
-use crate::rows;
 use crate::state;
 use gerg::evaluate::EvaluateAnswer;
+use gerg_answers::PropertiesAnswer;
+use gerg_prepared::Mixed;
+use gerg_prepared::Refusal;
+use gerg_prepared::rows;
 ghost use mathlib.Core.Path.{_≡_};
 ghost use Rattle.gerg_tables.specs.Tables.{tables, Shaped};
 ghost use Rattle.gerg_api.specs.Calls as is;
-ghost use Rattle.gerg_api.specs.declared.Refusal.the-variants as refusals;
+ghost use Rattle.gerg_prepared.specs.declared.Refusal.the-variants as refusals;
 
 fn stated(answer: EvaluateAnswer) -> PropertiesAnswer
     ensures { λ r. ⌜ r ≡ is.statedOf answer ⌝ }
@@ -36,7 +36,7 @@ fn properties_from<'a>(
     }
 }
 
-// PropertiesAnswer of a mixture at a temperature (K) and a molar density (mol/m³).
+// The properties of a mixture at a temperature (K) and a molar density (mol/m³).
 pub fn properties(file: &[u8], list: &[u8], fractions: &[f64], t: f64, rho: f64) -> PropertiesAnswer
     ensures { λ r. ⌜ r ≡ is.propertiesOf (now (file .entry)) (now (list .entry)) (now (fractions .entry)) t rho ⌝ }
 {

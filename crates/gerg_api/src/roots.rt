@@ -1,15 +1,15 @@
 // The call `outer_roots`.
-use crate::Mixed;
-use crate::Refusal;
-use crate::rows;
 use gerg::helmholtz;
 use gerg_flash::RootsAnswer;
 use gerg_flash::roots;
+use gerg_prepared::Mixed;
+use gerg_prepared::Refusal;
+use gerg_prepared::rows;
 ghost use mathlib.Core.Path.{_≡_};
 ghost use Rattle.gerg_tables.specs.Tables.{tables, Shaped};
-ghost use Rattle.gerg_model.specs.Mixture.{Listed};
+ghost use Rattle.gerg_model.specs.Listed.{Listed};
 ghost use Rattle.gerg_api.specs.Equilibrium as is;
-ghost use Rattle.gerg_api.specs.declared.Refusal.the-variants as refusals;
+ghost use Rattle.gerg_prepared.specs.declared.Refusal.the-variants as refusals;
 
 fn roots_from<'a>(
     doubles: &'a [f64; 4086],

@@ -1,15 +1,17 @@
 // The call `pure_saturation`.
-use crate::Mixed;
-use crate::Refusal;
-use crate::rows;
 use gerg::helmholtz;
+use gerg_ph::Interval;
+use gerg_ph::Options;
 use gerg_ph::SaturationAnswer;
 use gerg_ph::saturation;
+use gerg_prepared::Mixed;
+use gerg_prepared::Refusal;
+use gerg_prepared::rows;
 ghost use mathlib.Core.Path.{_≡_};
 ghost use Rattle.gerg_tables.specs.Tables.{tables, Shaped};
-ghost use Rattle.gerg_model.specs.Mixture.{Listed};
+ghost use Rattle.gerg_model.specs.Listed.{Listed};
 ghost use Rattle.gerg_api.specs.Equilibrium as is;
-ghost use Rattle.gerg_api.specs.declared.Refusal.the-variants as refusals;
+ghost use Rattle.gerg_prepared.specs.declared.Refusal.the-variants as refusals;
 
 fn saturation_from<'a>(
     doubles: &'a [f64; 4086],
@@ -28,6 +30,8 @@ fn saturation_from<'a>(
     let temperature_gradient = mixed.temperature_gradient;
     let gradients = [volume_gradient, temperature_gradient];
     let model = mixed.model;
+    let interval = Interval { lo, hi };
+    let options = Options { interval, limit };
     match refusal {
         Refusal::Nothing => saturation::pure_saturation(
             doubles,
@@ -36,9 +40,7 @@ fn saturation_from<'a>(
             model,
             helmholtz::normal_range(),
             target,
-            lo,
-            hi,
-            limit,
+            options,
         ),
         Refusal::Refused { number, value } => SaturationAnswer::Refused { number, value },
     }

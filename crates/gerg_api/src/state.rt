@@ -1,8 +1,8 @@
 // The state that `properties` and `fugacity` share. The module is private: what stands here asks for tables of an accepted file.
-use crate::Mixed;
 use gerg::evaluate;
 use gerg::evaluate::EvaluateAnswer;
 use gerg::helmholtz;
+use gerg_prepared::Mixed;
 ghost use mathlib.Core.Path.{_≡_};
 ghost use Rattle.gerg_tables.specs.Tables.{tables, Shaped};
 ghost use Rattle.gerg_api.specs.Calls as is;

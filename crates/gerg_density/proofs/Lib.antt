@@ -1,4 +1,3 @@
--- Laws of the density search that speak of no code.
+-- Laws of the density search that speak of no code, and the promises.
 pub mod Laws
 pub mod Promises
-pub mod MixturePromises

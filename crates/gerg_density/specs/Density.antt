@@ -1,7 +1,6 @@
 -- The density search of a mixture: the verdict at a density, the search, and the state at an accepted density.
-use mathlib.Core.Path.{_≡_}
-use Prim.Native.Nat.{ℕ, _^_, _<_}
-use mathlib.Core.Bool.{Bool, false}
+use Prim.Native.Nat.{ℕ}
+use mathlib.Core.Bool.{Bool}
 use mathlib.Core.List.{List}
 use lib.Ieee.{Float, lt, neg}
 use Rattle.numerics.specs.Double.{_⊖_, _⊘_, +0, pick}
@@ -13,17 +12,14 @@ use Rattle.gerg.specs.declared.helmholtz.HelmholtzAnswer.{HelmholtzAnswer}
 use Rattle.gerg.specs.declared.evaluate.EvaluateAnswer.{EvaluateAnswer}
 use Rattle.gerg.specs.Helmholtz.{helmholtzOf}
 use Rattle.gerg.specs.Evaluate.{evaluateOf}
-use Rattle.gerg_density.specs.Checks.{optionsRefused, targetRefused}
-use Rattle.gerg_density.specs.Verdicts.{Doubles}
 use Rattle.gerg_density.specs.Trial.{trialPressure, trialStiffness, scaleOf, sampleOf}
-use Rattle.gerg_density.specs.Run.{searched, lastOf, answerOf, reported, outcomeOf, trialsOf}
-use lib.ListN.{length}
-use Rattle.gerg_density.specs.declared.Bracket.{Bracket}
-use Rattle.gerg_density.specs.declared.Options.{Options}
-use Rattle.gerg_density.specs.declared.Sample.{Sample}
-use Rattle.gerg_density.specs.declared.Sample.the-variants.{Residual, Stopped}
-use Rattle.gerg_density.specs.declared.Outcome.{Outcome}
-use Rattle.gerg_density.specs.declared.Outcome.the-variants.{Found, Failed}
+use Rattle.gerg_search.specs.Run.{outcomeOf, trialsOf}
+use Rattle.gerg_search.specs.declared.Bracket.{Bracket}
+use Rattle.gerg_search.specs.declared.Options.{Options}
+use Rattle.gerg_search.specs.declared.Sample.{Sample}
+use Rattle.gerg_search.specs.declared.Sample.the-variants.{Stopped}
+use Rattle.gerg_search.specs.declared.Outcome.{Outcome}
+use Rattle.gerg_search.specs.declared.Outcome.the-variants.{Found, Failed}
 use Rattle.gerg_density.specs.declared.DensityAnswer.{DensityAnswer}
 use Rattle.gerg_density.specs.declared.DensityAnswer.the-variants.{Accepted, Refused}
 
@@ -34,22 +30,6 @@ trialOf temperature target rho (HelmholtzAnswer.Refused n) = Stopped n
 
 unfoldable pub verdictOf : Tables → GergModel → Range → Float → Float → Float → Sample
 verdictOf t m range temperature target rho = trialOf temperature target rho (helmholtzOf t m range temperature rho)
-
-abbrev pub optionsOf : Float → Float → ℕ → Float → Options
-optionsOf lo hi limit tolerance = record { bracket = record { lo = lo; hi = hi }; limit = limit; tolerance = tolerance }
-
--- past rows 13 and 14, of doubles and a machine's number
-pub record Ready (high target : Float) (o : Options) : Type 0 where
-  pub doubles : Doubles o
-  pub fits : o .limit < 2 ^ 64
-  pub bracketed : optionsRefused o ≡ false
-  pub reachable : targetRefused high target ≡ false
-
--- the search itself, after rows 13 and 14
-unfoldable pub runOf : Tables → GergModel → Range → Float → Float → Options → Outcome
-runOf t m range temperature target o =
-    reported (answerOf o (verdictOf t m range temperature target)) (length (searched o (verdictOf t m range temperature target)))
-    (lastOf o (verdictOf t m range temperature target) .bracket)
 
 -- rows 13 to 16, 18 and 19, and the trials; the pressure end is the range's
 unfoldable pub searchOf : Tables → GergModel → Range → Float → Float → Options → Outcome

@@ -1,11 +1,11 @@
 -- The trial of a density: its pressure and stiffness from the derivatives there, its tests, and its verdict.
-use mathlib.Core.Bool.{Bool, not, _||_}
+use mathlib.Core.Bool.{not, _||_}
 use lib.Ieee.{Float, lt, le}
 use lib.Ieee.Scale.{finite}
 use Rattle.numerics.specs.Double.{_⊕_, _⊖_, _⊗_, _⊘_, +0, one, two, pick}
 use Rattle.gerg.specs.Evaluate.{gasConstant}
-use Rattle.gerg_density.specs.declared.Sample.{Sample}
-use Rattle.gerg_density.specs.declared.Sample.the-variants.{Residual, Stopped}
+use Rattle.gerg_search.specs.declared.Sample.{Sample}
+use Rattle.gerg_search.specs.declared.Sample.the-variants.{Residual, Stopped}
 
 -- "a trial is ρ × (R × T) × (1 + ar_d)"
 unfoldable pub trialPressure : Float → Float → Float → Float

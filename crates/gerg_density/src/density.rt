@@ -1,28 +1,31 @@
 // The density search of a mixture: rows 13 and 14, the loop over steps, and the state at an accepted density.
 
-use crate::Bracket;
 use crate::DensityAnswer;
 use crate::DensityResult;
-use crate::Options;
-use crate::Outcome;
-use crate::Sample;
-use crate::Step;
-use crate::checks;
-use crate::steps;
 use crate::trial;
 use gerg::GergState;
 use gerg::Range;
-use gerg::evaluate;
 use gerg::evaluate::EvaluateAnswer;
+use gerg::evaluate::evaluate_at;
 use gerg::helmholtz;
 use gerg::helmholtz::HelmholtzAnswer;
-use gerg::isotherm;
+use gerg_isotherm::isotherm;
 use gerg_model::GergModel;
+use gerg_search::Bracket;
+use gerg_search::Options;
+use gerg_search::Outcome;
+use gerg_search::Sample;
+use gerg_search::Search;
+use gerg_search::Step;
+use gerg_search::checks;
+use gerg_search::steps;
 ghost use mathlib.Core.Path.{_≡_};
 ghost use Rattle.gerg_tables.specs.Tables.{tables, Shaped};
-ghost use Rattle.gerg.specs.Isotherm.{isothermOf};
-ghost use Rattle.gerg_density.specs.Run.{valueOf};
+ghost use Rattle.gerg_isotherm.specs.Isotherm.{isothermOf};
+ghost use Rattle.gerg_search.specs.Run.{refusalValue};
 ghost use Rattle.gerg_density.specs.Density as is;
+ghost use Rattle.gerg_density.specs.Running.{Ready, runOf};
+ghost use Rattle.gerg_search.specs.declared.Outcome.the-variants.{Found};
 
 // The trial at a density of an isotherm.
 fn verdict<'a>(
@@ -50,12 +53,24 @@ fn verdict<'a>(
 
 // What a refusal reports: the trials for rows 18 and 19, else 0.
 fn value(number: u8, trials: usize) -> usize
-    ensures { λ r. ⌜ r ≡ valueOf number trials ⌝ }
+    ensures { λ r. ⌜ r ≡ refusalValue number trials ⌝ }
 {
     if (number == 18) | (number == 19) {
         return trials;
     }
     0
+}
+
+// What is reported of an accepted density: the trials, and the bracket before the last of them.
+fn found(s: Search, x: f64) -> Outcome
+    ensures { λ r. ⌜ r ≡ Found x (s .trials) (s .bracket) ⌝ }
+{
+    let b = s.bracket;
+    Outcome::Found {
+        density: x,
+        trials: s.trials,
+        bracket: b,
+    }
 }
 
 // The steps of a search, one tried density each.
@@ -69,8 +84,8 @@ fn run<'a>(
     target: f64,
     o: Options,
 ) -> Outcome
-    requires { ⌜ Shaped (tables (now doubles) (now integers)) × (now isotherm ≡ isothermOf (tables (now doubles) (now integers)) model temperature) × is.Ready (range .«pressure_high») target o ⌝ }
-    ensures { λ r. ⌜ r ≡ is.runOf (tables (now (doubles .entry)) (now (integers .entry))) model range temperature target o ⌝ }
+    requires { ⌜ Shaped (tables (now doubles) (now integers)) × (now isotherm ≡ isothermOf (tables (now doubles) (now integers)) model temperature) × Ready (range .«pressure_high») target o ⌝ }
+    ensures { λ r. ⌜ r ≡ runOf (tables (now (doubles .entry)) (now (integers .entry))) model range temperature target o ⌝ }
 {
     let mut s = steps::begin(o);
     loop {
@@ -88,14 +103,7 @@ fn run<'a>(
             Step::Try(x) => {
                 s = steps::moved(s, sample, x);
             }
-            Step::Accepted(x) => {
-                let b = s.bracket;
-                return Outcome::Found {
-                    density: x,
-                    trials: s.trials,
-                    bracket: b,
-                };
-            }
+            Step::Accepted(x) => return found(s, x),
             Step::Refused(number) => return Outcome::Failed {
                 number,
                 value: value(number, s.trials),
@@ -113,27 +121,20 @@ pub fn search<'a>(
     range: Range,
     temperature: f64,
     target: f64,
-    lo: f64,
-    hi: f64,
-    limit: usize,
-    tolerance: f64,
+    options: Options,
 ) -> Outcome
     requires { ⌜ Shaped (tables (now doubles) (now integers)) × (now isotherm ≡ isothermOf (tables (now doubles) (now integers)) model temperature) ⌝ }
-    ensures { λ r. ⌜ r ≡ is.searchOf (tables (now (doubles .entry)) (now (integers .entry))) model range temperature target (is.optionsOf lo hi limit tolerance) ⌝ }
+    ensures { λ r. ⌜ r ≡ is.searchOf (tables (now (doubles .entry)) (now (integers .entry))) model range temperature target options ⌝ }
 {
-    let b = Bracket { lo, hi };
-    let o = Options {
-        bracket: b,
-        limit,
-        tolerance,
-    };
-    if checks::options_refused(o) {
+    let options_refused = checks::options_refused(options);
+    let target_refused = checks::target_refused(range.pressure_high, target);
+    if options_refused {
         return Outcome::Failed {
             number: 13,
             value: 0,
         };
     }
-    if checks::target_refused(range.pressure_high, target) {
+    if target_refused {
         return Outcome::Failed {
             number: 14,
             value: 0,
@@ -147,7 +148,7 @@ pub fn search<'a>(
         range,
         temperature,
         target,
-        o,
+        options,
     )
 }
 
@@ -200,43 +201,7 @@ fn checked(
     }
 }
 
-// The state at the density that the search accepts.
-fn finished<'a>(
-    doubles: &'a [f64; 4086],
-    integers: &'a [u8; 1631],
-    isotherm: &'a [f64; 939],
-    model: GergModel,
-    range: Range,
-    temperature: f64,
-    target: f64,
-    o: Options,
-    outcome: Outcome,
-) -> DensityAnswer
-    requires { ⌜ Shaped (tables (now doubles) (now integers)) × (now isotherm ≡ isothermOf (tables (now doubles) (now integers)) model temperature) ⌝ }
-    ensures { λ r. ⌜ r ≡ is.finishedOf (tables (now (doubles .entry)) (now (integers .entry))) model range temperature target o outcome ⌝ }
-{
-    match outcome {
-        Outcome::Failed { number, value } => DensityAnswer::Refused { number, value },
-        Outcome::Found {
-            density,
-            trials,
-            bracket,
-        } => {
-            let e = evaluate::evaluate_at(
-                doubles,
-                integers,
-                isotherm,
-                model,
-                range,
-                temperature,
-                density,
-            );
-            checked(target, o, trials, bracket, e)
-        }
-    }
-}
-
-// Pressure inverted within a bracket: the isotherm's cells are made once for all trials.
+// Pressure inverted within a bracket: the isotherm's cells are made once for all trials and for the state at an accepted density.
 pub fn density<'a>(
     doubles: &'a [f64; 4086],
     integers: &'a [u8; 1631],
@@ -244,16 +209,13 @@ pub fn density<'a>(
     range: Range,
     temperature: f64,
     target: f64,
-    lo: f64,
-    hi: f64,
-    limit: usize,
-    tolerance: f64,
+    options: Options,
 ) -> DensityAnswer
     requires { ⌜ Shaped (tables (now doubles) (now integers)) ⌝ }
-    ensures { λ r. ⌜ r ≡ is.densityOf (tables (now (doubles .entry)) (now (integers .entry))) model range temperature target (is.optionsOf lo hi limit tolerance) ⌝ }
+    ensures { λ r. ⌜ r ≡ is.densityOf (tables (now (doubles .entry)) (now (integers .entry))) model range temperature target options ⌝ }
 {
     let cells = isotherm::isotherm(doubles, integers, model, temperature);
-    let outcome = search(
+    match search(
         doubles,
         integers,
         &cells,
@@ -261,26 +223,16 @@ pub fn density<'a>(
         range,
         temperature,
         target,
-        lo,
-        hi,
-        limit,
-        tolerance,
-    );
-    let b = Bracket { lo, hi };
-    let o = Options {
-        bracket: b,
-        limit,
-        tolerance,
-    };
-    finished(
-        doubles,
-        integers,
-        &cells,
-        model,
-        range,
-        temperature,
-        target,
-        o,
-        outcome,
-    )
+        options,
+    ) {
+        Outcome::Failed { number, value } => DensityAnswer::Refused { number, value },
+        Outcome::Found {
+            density: rho,
+            trials,
+            bracket,
+        } => {
+            let e = evaluate_at(doubles, integers, &cells, model, range, temperature, rho);
+            checked(target, options, trials, bracket, e)
+        }
+    }
 }

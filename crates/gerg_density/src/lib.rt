@@ -1,69 +1,11 @@
 // The density search of gerg_density.rs: a pressure is inverted within a given bracket of densities. One step of the search takes the
 // verdict of the trial at one density and answers what to do next; all that a search knows is in one struct by value.
 
-pub mod checks;
 pub mod density;
-pub mod point;
-pub mod steps;
 pub mod trial;
 
 use gerg::GergState;
-
-// The ends of an interval of densities, in mol/m³.
-pub struct Bracket {
-    pub lo: f64,
-    pub hi: f64,
-}
-
-// What the caller chooses: the bracket, the most interior trials, and the largest scaled pressure residual that is accepted.
-pub struct Options {
-    pub bracket: Bracket,
-    pub limit: usize,
-    pub tolerance: f64,
-}
-
-// The verdict of a trial at a density: the scaled residual and the scaled derivative, or the number of the refusal that stopped it.
-pub enum Sample {
-    Residual(f64, f64),
-    Stopped(u8),
-}
-
-// Which density is being tried.
-pub enum Stage {
-    Low,
-    High,
-    Interior,
-}
-
-// A search: the density being tried, the bracket before that trial, the residual found at the low end, and the interior trials made,
-// the present one included.
-pub struct Search {
-    pub stage: Stage,
-    pub density: f64,
-    pub bracket: Bracket,
-    pub low_residual: f64,
-    pub trials: usize,
-}
-
-// What a step answers: try this density, accepted at this density, refused (with the number of the cause).
-pub enum Step {
-    Try(f64),
-    Accepted(f64),
-    Refused(u8),
-}
-
-// How a search ends.
-pub enum Outcome {
-    Found {
-        density: f64,
-        trials: usize,
-        bracket: Bracket,
-    },
-    Failed {
-        number: u8,
-        value: usize,
-    },
-}
+use gerg_search::Bracket;
 
 // An accepted density: its state, the state's scaled pressure residual, the interior trials, the given bracket and the last one.
 pub struct DensityResult {

@@ -1,8 +1,8 @@
 // The trial of a density, from the derivatives of the Helmholtz energy there.
 
-use crate::Sample;
 use gerg::evaluate::GERG_GAS_CONSTANT;
 use gerg_model::mixture::is_finite;
+use gerg_search::Sample;
 ghost use mathlib.Core.Path.{_≡_};
 ghost use Rattle.gerg_density.specs.Trial.{trialPressure, trialStiffness, scaleOf, sampleOf};
 
@@ -35,9 +35,10 @@ pub fn sample(target: f64, p: f64, derivative: f64) -> Sample
     if !is_finite(p) | !is_finite(derivative) {
         return Sample::Stopped(12);
     }
+    let s = scale(target);
+    let f = (p - target) / s;
     if derivative <= 0.0 {
         return Sample::Stopped(15);
     }
-    let s = scale(target);
-    Sample::Residual((p - target) / s, derivative / s)
+    Sample::Residual(f, derivative / s)
 }

@@ -1,86 +1,85 @@
--- What demand 3 promises of root lists. Assumes nothing.
-use mathlib.Core.Path.{_≡_, sym, ap, _∙_}
-use mathlib.Core.Bool.{Bool, true, false}
-use mathlib.Core.List.{List, []}
-use Prim.Native.Nat.{ℕ, _+_, _*_, _<_}
-use native.Mathlib.Nat.{lt-trans}
+-- What every answer of `outer_roots` keeps, whatever the file, the mixture, the range, the temperature and the pressure. Assumes nothing.
+use mathlib.Core.Path.{_≡_, refl, sym, ap, _∙_}
+use mathlib.Core.List.{List}
+use Prim.Native.Nat.{ℕ, _+_, _*_, _^_, _≤_, _<_}
+use native.Mathlib.Nat.{lt-trans, mul-le-mul}
 use native.Mathlib.Omega.{arith}
-use lib.Dec.{T, eqb}
+use lib.Dec.{T}
 use lib.Ieee.{Float, nan, lt}
 use lib.ListN.{length, getD}
-use Rattle.numerics.specs.Double.{pick}
+use Rattle.numerics.specs.Spacing.{count→lt}
 use Rattle.gerg_tables.specs.declared.Tables.{Tables}
 use Rattle.gerg_model.specs.declared.GergModel.{GergModel}
-use Rattle.gerg.specs.declared.GergState.{GergState}
 use Rattle.gerg.specs.declared.Range.{Range}
-use Rattle.gerg.specs.declared.evaluate.EvaluateAnswer.{EvaluateAnswer}
-use Rattle.gerg.specs.declared.evaluate.EvaluateAnswer.the-variants as evaluated
-use Rattle.gerg_fugacity.specs.declared.fugacity.FugacityCheck.{FugacityCheck}
-use Rattle.gerg_fugacity.specs.declared.fugacity.FugacityCheck.the-variants as checked
-use Rattle.gerg.specs.Evaluate.{evaluateOf}
-use Rattle.gerg_fugacity.specs.Fugacity.{fugacityOf}
-use Rattle.gerg_density.proofs.Laws.Gap.{count→lt}
-use Rattle.gerg_flash.specs.Grid.{gridOf}
-use Rattle.gerg_flash.specs.Scan.{Scanned, scanOf}
-use Rattle.gerg_flash.specs.Sampling.{sampleOf}
-use Rattle.gerg_flash.specs.Roots.{Outcome, found, stopped, headOf, checkedOf, stateOf, rootAt, keptOf, foundOf, numberAt, memoryBy, searchedOf, rootsOf, rootsMemory}
-use Rattle.gerg_flash.specs.RootList.{rootList}
-use Rattle.gerg_flash.proofs.Laws.Rising.{Rising, rising-none}
-use Rattle.gerg_flash.proofs.Laws.GridRises.{grid-rises, grid-some}
-use Rattle.gerg_flash.proofs.Laws.ScanRises.{scan-rises}
-use Rattle.gerg_flash.proofs.Laws.KeptRises.{Headed, kept-rises}
-use Rattle.gerg_flash.proofs.Laws.Written.{roots-at, list-at, list-length, Accepted, roots-accepted}
-use Rattle.gerg_flash.specs.declared.RootsAnswer.the-variants.{Roots}
+use Rattle.gerg_flash.specs.Roots.{Kept, numberAt, memoryBy, searchedOf, rootsOf, rootsMemory}
+use Rattle.gerg_flash.specs.RootsNumbers.{numberOf, valueOf}
+use Rattle.gerg_flash.specs.declared.RootsAnswer.{RootsAnswer}
+use Rattle.gerg_flash.specs.declared.RootsAnswer.the-variants.{Roots, Refused}
+use Rattle.gerg_flash.proofs.Laws.Few.{searched-few}
+use Rattle.gerg_flash.proofs.Laws.RootList.{rootList}
+use Rattle.gerg_flash.proofs.Laws.RootsRise.{searched-rises}
+use Rattle.gerg_flash.proofs.Laws.Values.{roots-told}
+use Rattle.gerg_flash.proofs.Laws.Written.{roots-at, roots-past, list-at, list-length, Accepted, roots-accepted}
 
--- ---- a root's first number is its density
-module _ (t : Tables) (m : GergModel) (gradients : List (List Float)) (temperature x : Float) (h c : List Float) where
-  unlike : (n : ℕ) → stopped n ≡ found h c → ⊥
-  unlike n e = let z : _≡_ {A = ℕ} 0 1 = cc in omega arith
+-- ---- of an accepted call, which answers n roots
+module _ (t : Tables) (m : GergModel) (gradients : List (List Float)) (range : Range) (temperature pressure : Float) (out : List Float) (n : ℕ) (e : rootsOf t m gradients range temperature pressure (length out) ≡ Roots n) where
+  accepted : Accepted m (length out) n (searchedOf t m gradients range temperature pressure)
+  accepted = roots-accepted t m gradients range temperature pressure (length out) n e
 
-  headed-check : (s : GergState) (f : FugacityCheck) → checkedOf t m gradients temperature x s f ≡ found h c → getD h 0 nan ≡ x
-  unfolding checkedOf headOf
-  headed-check s checked.Sound e = let i : h ≡ headOf x s = cc in rw i
-  headed-check s (checked.Refused n v) e = absurd (unlike n e)
+  -- it has a root at least
+  pub some-root : 0 < n
+  some-root = omega (arith, accepted .some, accepted .count)
 
-  headed-state : (a : EvaluateAnswer) → stateOf t m gradients temperature x a ≡ found h c → getD h 0 nan ≡ x
-  unfolding stateOf
-  headed-state (evaluated.State s) e = headed-check s (fugacityOf t m gradients s temperature x) e
-  headed-state (evaluated.Refused n) e = absurd (unlike n e)
+  -- as many doubles as it needs were lent
+  pub needed-lent : n * (4 + m .components) ≤ length out
+  needed-lent = omega (arith, ap (λ (c : ℕ). c * (4 + m .components)) (accepted .count), accepted .room)
 
-headed : (t : Tables) (m : GergModel) (gradients : List (List Float)) (range : Range) (temperature : Float) → Headed (rootAt t m gradients range temperature)
-unfolding rootAt
-headed t m gradients range temperature x h c e = headed-state t m gradients temperature x h c (evaluateOf t m range temperature x) e
-
-found-rises : (root : Float → Outcome) → Headed root → (target : Float) (s : Scanned) → Rising (s .densities) → Rising (rootList (foundOf root target s .heads))
-unfolding foundOf rootList
-found-rises root g target s r = go (eqb (s .refused) 0)
-  where
-    go : (b : Bool) → Rising (rootList (pick b (keptOf root target s) (record { heads = []; coefficients = []; refused = s .refused }) .heads))
-    go true = kept-rises root g target s r
-    go false = rising-none
-
--- "Root lists rise strictly": of two roots of a list, whatever the file, the mixture, the range, the temperature and the pressure, the later has the greater density
-pub root-lists-rise : (t : Tables) (m : GergModel) (gradients : List (List Float)) (range : Range) (temperature target : Float) (i j : ℕ) → i < j → j < length (rootList (searchedOf t m gradients range temperature target .heads)) → T (lt (getD (rootList (searchedOf t m gradients range temperature target .heads)) i nan) (getD (rootList (searchedOf t m gradients range temperature target .heads)) j nan))
-unfolding searchedOf
-root-lists-rise t m gradients range temperature target i j h k =
-    let l = rootList (searchedOf t m gradients range temperature target .heads) in
-    let r : Rising (rootList (searchedOf t m gradients range temperature target .heads)) =
-    found-rises (rootAt t m gradients range temperature) (headed t m gradients range temperature) target (scanOf (sampleOf t m range temperature target) target gridOf)
-    (scan-rises (sampleOf t m range temperature target) target gridOf grid-rises grid-some) in
-    count→lt (getD l i nan) (getD l j nan) (r .each i (lt-trans h k) .good) (r .each j k .good) (r .order i j h k)
-
--- ---- the root list is what an accepted call wrote: as many roots as it answers, and the density of root i at i times the numbers of a root
-module _ (t : Tables) (m : GergModel) (gradients : List (List Float)) (range : Range) (temperature target : Float) (out : List Float) (n : ℕ) (e : rootsOf t m gradients range temperature target (length out) ≡ Roots n) where
-  accepted : Accepted m (length out) n (searchedOf t m gradients range temperature target)
-  accepted = roots-accepted t m gradients range temperature target (length out) n e
-
-  pub root-list-length : length (rootList (searchedOf t m gradients range temperature target .heads)) ≡ n
-  root-list-length = list-length (searchedOf t m gradients range temperature target .heads) ∙ accepted .count
-
-  pub root-list-written : (i : ℕ) → i < n → getD (rootsMemory t m gradients range temperature target out) (i * (4 + m .components)) nan ≡ getD (rootList (searchedOf t m gradients range temperature target .heads)) i nan
+  density : (i : ℕ) → i < n → getD (rootsMemory t m gradients range temperature pressure out) (i * (4 + m .components)) nan ≡ getD (rootList (searchedOf t m gradients range temperature pressure .heads)) i nan
   unfolding rootsMemory memoryBy numberAt
-  root-list-written i h =
-      let k = searchedOf t m gradients range temperature target in
+  density i h =
+      let k = searchedOf t m gradients range temperature pressure in
       let z : i * (4 + m .components) ≡ i * (4 + m .components) + 0 = omega arith in
-      rw (e, z)
-      (roots-at (k .heads) (k .coefficients) (4 + m .components) n out i 0 h (omega arith) (omega (arith, ap (λ (c : ℕ). c * (4 + m .components)) (accepted .count), accepted .room)) ∙ sym (list-at (k .heads) i))
+      rw (e, z) (roots-at (k .heads) (k .coefficients) (4 + m .components) n out i 0 h (omega arith) needed-lent ∙ sym (list-at (k .heads) i))
+
+  -- "Root lists rise strictly": of two roots as they are written, 4 + the list's length doubles each with the density first, the later has the greater density
+  pub root-lists-rise : (i j : ℕ) → i < j → j < n → T (lt (getD (rootsMemory t m gradients range temperature pressure out) (i * (4 + m .components)) nan) (getD (rootsMemory t m gradients range temperature pressure out) (j * (4 + m .components)) nan))
+  root-lists-rise i j h k =
+      let l = rootList (searchedOf t m gradients range temperature pressure .heads) in
+      let r = searched-rises t m gradients range temperature pressure in
+      let whole : length l ≡ n = list-length (searchedOf t m gradients range temperature pressure .heads) ∙ accepted .count in
+      let b : j < length l = omega (arith, whole) in
+      rw (density i (lt-trans h k), density j k)
+      (count→lt (getD l i nan) (getD l j nan) (r .each i (lt-trans h b) .good) (r .each j b .good) (r .order i j h b))
+
+  -- "doubles of a lent answer past those needed stay as lent, for roots too"
+  pub past-needed-stay : (i : ℕ) → n * (4 + m .components) ≤ i → getD (rootsMemory t m gradients range temperature pressure out) i nan ≡ getD out i nan
+  unfolding rootsMemory memoryBy
+  past-needed-stay i h =
+      let k = searchedOf t m gradients range temperature pressure in
+      rw e (roots-past (k .heads) (k .coefficients) (4 + m .components) n out i h)
+
+-- ---- of every call
+module _ (t : Tables) (m : GergModel) (gradients : List (List Float)) (range : Range) (temperature pressure : Float) where
+  refused-stays : (k : Kept) (a : RootsAnswer) (out : List Float) → (numberOf a ≡ 0 → ⊥) → memoryBy m k a out ≡ out
+  unfolding memoryBy
+  refused-stays k (Roots n) out h = absurd (h refl)
+  refused-stays k (Refused number value) out h = refl
+
+  -- "Every row leaves all lent memory as it was"
+  pub refusal-leaves-memory : (out : List Float) → (numberOf (rootsOf t m gradients range temperature pressure (length out)) ≡ 0 → ⊥) → rootsMemory t m gradients range temperature pressure out ≡ out
+  unfolding rootsMemory
+  refusal-leaves-memory out h = refused-stays (searchedOf t m gradients range temperature pressure) (rootsOf t m gradients range temperature pressure (length out)) out h
+
+  -- number 0 is an accepted call
+  pub accepted-roots : (lent : ℕ) → numberOf (rootsOf t m gradients range temperature pressure lent) ≡ 0 → (n : ℕ) × (rootsOf t m gradients range temperature pressure lent ≡ Roots n)
+  accepted-roots lent z = roots-told t m gradients range temperature pressure lent .accepted z
+
+  -- the value of every row but 24 is 0
+  pub value-zero : (lent : ℕ) → (numberOf (rootsOf t m gradients range temperature pressure lent) ≡ 24 → ⊥) → valueOf (rootsOf t m gradients range temperature pressure lent) ≡ 0
+  value-zero lent h = roots-told t m gradients range temperature pressure lent .other h
+
+  -- and of a list of at most 21 components below 2 ^ 32
+  pub value-below : (lent : ℕ) → m .components ≤ 21 → valueOf (rootsOf t m gradients range temperature pressure lent) < 2 ^ 32
+  value-below lent few =
+      let g : 4 + m .components ≤ 25 = omega arith in
+      omega (arith, roots-told t m gradients range temperature pressure lent .most, mul-le-mul (searched-few t m gradients range temperature pressure) g)

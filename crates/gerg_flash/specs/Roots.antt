@@ -17,10 +17,10 @@ use Rattle.gerg_fugacity.specs.declared.fugacity.FugacityCheck.{FugacityCheck}
 use Rattle.gerg_fugacity.specs.declared.fugacity.FugacityCheck.the-variants as checked
 use Rattle.gerg.specs.Evaluate.{evaluateOf}
 use Rattle.gerg_fugacity.specs.Fugacity.{fugacityOf, fugacityMemory}
-use Rattle.gerg_flash.specs.Grid.{gridOf}
-use Rattle.gerg_flash.specs.Halving.{largerOf}
-use Rattle.gerg_flash.specs.Scan.{Scanned, scanOf}
-use Rattle.gerg_flash.specs.Sampling.{sampleOf}
+use Rattle.gerg_grid.specs.Grid.{gridOf}
+use Rattle.gerg_scan.specs.Halving.{largerOf}
+use Rattle.gerg_scan.specs.Scan.{Scanned, scanOf}
+use Rattle.gerg_scan.specs.Sampling.{sampleOf}
 use Rattle.gerg_flash.specs.declared.Settled.{Settled}
 use Rattle.gerg_flash.specs.declared.RootsAnswer.{RootsAnswer}
 use Rattle.gerg_flash.specs.declared.RootsAnswer.the-variants.{Roots, Refused}

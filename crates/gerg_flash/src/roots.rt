@@ -2,20 +2,23 @@
 
 use crate::RootsAnswer;
 use crate::Settled;
-use crate::grid;
-use crate::sampling;
 use crate::settle;
 use gerg::Range;
-use gerg::isotherm;
+use gerg_grid::grid;
+use gerg_isotherm::isotherm;
 use gerg_model::GergModel;
 use gerg_model::mixture;
+use gerg_scan::Sought;
+use gerg_scan::sampling;
 ghost use mathlib.Core.Path.{_≡_};
 ghost use Prim.Native.Nat.{_+_, _*_, _<_, _≤_};
 ghost use lib.ListN.{length, take};
 ghost use Rattle.gerg_tables.specs.Tables.{tables, Shaped};
-ghost use Rattle.gerg_model.specs.Mixture.{Listed};
+ghost use Rattle.gerg_model.specs.Listed.{Listed};
 ghost use Rattle.gerg_flash.specs.Roots as is;
+ghost use Rattle.gerg_grid.specs.GridArray.{HoldsGrid};
 ghost use Rattle.gerg_flash.specs.RootsArrays.{Settles};
+ghost use Rattle.gerg_flash.specs.SoughtRoots.{searchedFor};
 
 // Row 20: a listed component that is not one of the first five.
 pub fn beyond_five(model: GergModel) -> bool
@@ -119,48 +122,43 @@ fn finish(
     RootsAnswer::Roots(n)
 }
 
-// The scan, then its roots, which stay in the fronts of two lent arrays; the isotherm is worked out once.
+// The scan over a grid that is lent, then its roots, which stay in the fronts of two lent arrays; the isotherm is worked out once.
 pub fn exterior_roots<'a>(
     heads: &mut [[f64; 4]; 386],
     coefficients: &mut [[f64; 21]; 386],
+    points: &'a [f64; 386],
+    count: usize,
     doubles: &'a [f64; 4086],
     integers: &'a [u8; 1631],
     gradients: &'a [[f64; 21]; 2],
-    model: GergModel,
-    range: Range,
-    temperature: f64,
-    pressure: f64,
+    sought: Sought,
 ) -> Settled
-    requires { ⌜ (length (now heads) ≡ 386) × (length (now coefficients) ≡ 386) × Shaped (tables (now doubles) (now integers)) × Listed model ⌝ }
-    ensures { λ r. ⌜ Settles (is.searchedOf (tables (now (doubles .entry)) (now (integers .entry))) model (now (gradients .entry)) range temperature pressure) r
+    requires { ⌜ (length (now heads) ≡ 386) × (length (now coefficients) ≡ 386) × HoldsGrid (now points) count × Shaped (tables (now doubles) (now integers)) × Listed (sought .model) ⌝ }
+    ensures { λ r. ⌜ Settles (searchedFor (tables (now (doubles .entry)) (now (integers .entry))) (now (gradients .entry)) sought) r
         (now (heads .exit)) (now (coefficients .exit)) ⌝ }
 {
-    let cells = isotherm::isotherm(doubles, integers, model, temperature);
-    let g = grid::grid();
-    let points = g.points;
+    let model = sought.model;
+    let cells = isotherm::isotherm(doubles, integers, model, sought.temperature);
     let mut densities = [0.0; 386];
     let mut residuals = [0.0; 386];
-    let s = sampling::scan(
-        &points,
-        g.count,
+    let scanned = sampling::scan(
+        points,
+        count,
         &mut densities,
         &mut residuals,
         doubles,
         integers,
         &cells,
-        model,
-        range,
-        temperature,
-        pressure,
+        sought,
     );
-    if s.refused != 0 {
+    if scanned.refused != 0 {
         return Settled {
             count: 0,
-            refused: s.refused,
+            refused: scanned.refused,
         };
     }
     settle::settle(
-        s,
+        scanned,
         &densities,
         &residuals,
         heads,
@@ -169,10 +167,7 @@ pub fn exterior_roots<'a>(
         integers,
         &cells,
         gradients,
-        model,
-        range,
-        temperature,
-        pressure,
+        sought,
     )
 }
 
@@ -181,30 +176,29 @@ fn search<'a>(
     doubles: &'a [f64; 4086],
     integers: &'a [u8; 1631],
     gradients: &'a [[f64; 21]; 2],
-    model: GergModel,
-    range: Range,
-    temperature: f64,
-    pressure: f64,
+    sought: Sought,
     out: &mut [f64],
 ) -> RootsAnswer
-    requires { ⌜ Shaped (tables (now doubles) (now integers)) × Listed model ⌝ }
-    ensures answer { λ r. ⌜ r ≡ is.answerOf model (length (now (out .entry))) (is.searchedOf (tables (now (doubles .entry)) (now (integers .entry))) model (now (gradients .entry)) range temperature pressure) ⌝ }
-    ensures memory { λ r. ⌜ now (out .exit) ≡ is.memoryBy model (is.searchedOf (tables (now (doubles .entry)) (now (integers .entry))) model (now (gradients .entry)) range temperature pressure)
-        (is.answerOf model (length (now (out .entry))) (is.searchedOf (tables (now (doubles .entry)) (now (integers .entry))) model (now (gradients .entry)) range temperature pressure)) (now (out .entry)) ⌝ }
+    requires { ⌜ Shaped (tables (now doubles) (now integers)) × Listed (sought .model) ⌝ }
+    ensures answer { λ r. ⌜ r ≡ is.answerOf (sought .model) (length (now (out .entry))) (searchedFor (tables (now (doubles .entry)) (now (integers .entry))) (now (gradients .entry)) sought) ⌝ }
+    ensures memory { λ r. ⌜ now (out .exit) ≡ is.memoryBy (sought .model) (searchedFor (tables (now (doubles .entry)) (now (integers .entry))) (now (gradients .entry)) sought)
+        (is.answerOf (sought .model) (length (now (out .entry))) (searchedFor (tables (now (doubles .entry)) (now (integers .entry))) (now (gradients .entry)) sought)) (now (out .entry)) ⌝ }
 {
+    let g = grid::grid();
+    let points = g.points;
     let mut heads = [[0.0; 4]; 386];
     let mut coefficients = [[0.0; 21]; 386];
     let s = exterior_roots(
         &mut heads,
         &mut coefficients,
+        &points,
+        g.count,
         doubles,
         integers,
         gradients,
-        model,
-        range,
-        temperature,
-        pressure,
+        sought,
     );
+    let model = sought.model;
     finish(s, &heads, &coefficients, model, out)
 }
 
@@ -224,23 +218,22 @@ pub fn outer_roots<'a>(
     ensures answer { λ r. ⌜ r ≡ is.rootsOf (tables (now (doubles .entry)) (now (integers .entry))) model (now (gradients .entry)) range temperature pressure (length (now (out .entry))) ⌝ }
     ensures memory { λ r. ⌜ now (out .exit) ≡ is.rootsMemory (tables (now (doubles .entry)) (now (integers .entry))) model (now (gradients .entry)) range temperature pressure (now (out .entry)) ⌝ }
 {
-    if beyond_five(model) {
+    let beyond = beyond_five(model);
+    let within = within_envelope(temperature, pressure);
+    if beyond {
         return RootsAnswer::Refused {
             number: 20,
             value: 0,
         };
     }
-    if within_envelope(temperature, pressure) {
-        return search(
-            doubles,
-            integers,
-            gradients,
+    if within {
+        let sought = Sought {
             model,
             range,
             temperature,
             pressure,
-            out,
-        );
+        };
+        return search(doubles, integers, gradients, sought, out);
     }
     RootsAnswer::Refused {
         number: 21,

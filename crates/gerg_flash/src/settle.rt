@@ -1,25 +1,26 @@
 // From the roots that a scan found to those that are kept, with their states and fugacity coefficients.
 
-use crate::Scan;
+use crate::Candidate;
+use crate::RootState;
 use crate::Settled;
-use crate::halve;
-use gerg::GergState;
-use gerg::Range;
 use gerg::evaluate;
 use gerg::evaluate::EvaluateAnswer;
 use gerg_fugacity::fugacity;
 use gerg_fugacity::fugacity::FugacityCheck;
-use gerg_model::GergModel;
+use gerg_scan::Scan;
+use gerg_scan::Sought;
+use gerg_scan::halve;
 ghost use mathlib.Core.Path.{_≡_};
 ghost use Prim.Native.Nat.{_<_, _≤_};
 ghost use lib.ListN.{length};
 ghost use Rattle.gerg_tables.specs.Tables.{tables, Shaped};
-ghost use Rattle.gerg.specs.Isotherm.{isothermOf};
 ghost use Rattle.gerg_fugacity.specs.Fugacity.{fugacityOf};
-ghost use Rattle.gerg_model.specs.Mixture.{Listed};
-ghost use Rattle.gerg_flash.specs.Scan.{scannedOf};
+ghost use Rattle.gerg_model.specs.Listed.{Listed};
+ghost use Rattle.gerg_scan.specs.ScanArrays.{scannedOf};
 ghost use Rattle.gerg_flash.specs.Roots as is;
 ghost use Rattle.gerg_flash.specs.RootsArrays.{Joined, Kept, Settles};
+ghost use Rattle.gerg_scan.specs.Sought.{isothermFor};
+ghost use Rattle.gerg_flash.specs.SoughtRoots.{rootFor};
 
 fn limit(target: f64) -> f64
     ensures { λ r. ⌜ r ≡ is.limitOf target ⌝ }
@@ -35,17 +36,19 @@ fn state_root<'a>(
     doubles: &'a [f64; 4086],
     integers: &'a [u8; 1631],
     gradients: &'a [[f64; 21]; 2],
-    model: GergModel,
-    state: GergState,
-    temperature: f64,
-    rho: f64,
+    sought: Sought,
+    root: RootState,
 ) -> Settled
-    requires { ⌜ (s .count < 386) × (length (now heads) ≡ 386) × (length (now coefficients) ≡ 386) × Shaped (tables (now doubles) (now integers)) × Listed model ⌝ }
-    ensures { λ r. ⌜ Joined (is.checkedOf (tables (now (doubles .entry)) (now (integers .entry))) model (now (gradients .entry)) temperature rho state
-        (fugacityOf (tables (now (doubles .entry)) (now (integers .entry))) model (now (gradients .entry)) state temperature rho)) s
+    requires { ⌜ (s .count < 386) × (length (now heads) ≡ 386) × (length (now coefficients) ≡ 386) × Shaped (tables (now doubles) (now integers)) × Listed (sought .model) ⌝ }
+    ensures { λ r. ⌜ Joined (is.checkedOf (tables (now (doubles .entry)) (now (integers .entry))) (sought .model) (now (gradients .entry)) (sought .temperature) (root .density) (root .state)
+        (fugacityOf (tables (now (doubles .entry)) (now (integers .entry))) (sought .model) (now (gradients .entry)) (root .state) (sought .temperature) (root .density))) s
         (now (heads .entry)) (now (coefficients .entry)) r (now (heads .exit)) (now (coefficients .exit)) ⌝ }
 {
     let n = s.count;
+    let rho = root.density;
+    let state = root.state;
+    let model = sought.model;
+    let t = sought.temperature;
     let mut values = [0.0; 21];
     let check = fugacity::fugacity(
         doubles,
@@ -53,7 +56,7 @@ fn state_root<'a>(
         model,
         gradients,
         state,
-        temperature,
+        t,
         rho,
         &mut values,
     );
@@ -86,38 +89,43 @@ fn root<'a>(
     integers: &'a [u8; 1631],
     isotherm: &'a [f64; 939],
     gradients: &'a [[f64; 21]; 2],
-    model: GergModel,
-    range: Range,
-    temperature: f64,
+    sought: Sought,
     rho: f64,
 ) -> Settled
-    requires { ⌜ (s .count < 386) × (length (now heads) ≡ 386) × (length (now coefficients) ≡ 386) × Shaped (tables (now doubles) (now integers)) × Listed model
-        × (now isotherm ≡ isothermOf (tables (now doubles) (now integers)) model temperature) ⌝ }
-    ensures { λ r. ⌜ Joined (is.rootAt (tables (now (doubles .entry)) (now (integers .entry))) model (now (gradients .entry)) range temperature rho) s
+    requires { ⌜ (s .count < 386) × (length (now heads) ≡ 386) × (length (now coefficients) ≡ 386) × Shaped (tables (now doubles) (now integers)) × Listed (sought .model)
+        × (now isotherm ≡ isothermFor (tables (now doubles) (now integers)) sought) ⌝ }
+    ensures { λ r. ⌜ Joined (rootFor (tables (now (doubles .entry)) (now (integers .entry))) (now (gradients .entry)) sought rho) s
         (now (heads .entry)) (now (coefficients .entry)) r (now (heads .exit)) (now (coefficients .exit)) ⌝ }
 {
-    let e = evaluate::evaluate_at(doubles, integers, isotherm, model, range, temperature, rho);
+    let model = sought.model;
+    let range = sought.range;
+    let t = sought.temperature;
+    let e = evaluate::evaluate_at(doubles, integers, isotherm, model, range, t, rho);
     match e {
         EvaluateAnswer::Refused(n) => Settled {
             count: s.count,
             refused: n,
         },
-        EvaluateAnswer::State(state) => state_root(
-            s,
-            heads,
-            coefficients,
-            doubles,
-            integers,
-            gradients,
-            model,
-            state,
-            temperature,
-            rho,
-        ),
+        EvaluateAnswer::State(state) => {
+            let r = RootState {
+                density: rho,
+                state,
+            };
+            state_root(
+                s,
+                heads,
+                coefficients,
+                doubles,
+                integers,
+                gradients,
+                sought,
+                r,
+            )
+        }
     }
 }
 
-// One root of the scan; `first` and `last` are its points of negative stiffness.
+// One root of the scan.
 fn keep_step<'a>(
     s: Settled,
     heads: &mut [[f64; 4]; 386],
@@ -126,27 +134,22 @@ fn keep_step<'a>(
     integers: &'a [u8; 1631],
     isotherm: &'a [f64; 939],
     gradients: &'a [[f64; 21]; 2],
-    model: GergModel,
-    range: Range,
-    temperature: f64,
-    target: f64,
-    first: f64,
-    last: f64,
-    density: f64,
-    residual: f64,
+    sought: Sought,
+    found: Candidate,
 ) -> Settled
-    requires { ⌜ (s .count < 386) × (length (now heads) ≡ 386) × (length (now coefficients) ≡ 386) × Shaped (tables (now doubles) (now integers)) × Listed model
-        × (now isotherm ≡ isothermOf (tables (now doubles) (now integers)) model temperature) ⌝ }
-    ensures { λ r. ⌜ Kept (is.keepStep (is.rootAt (tables (now (doubles .entry)) (now (integers .entry))) model (now (gradients .entry)) range temperature) target first last density residual) s
+    requires { ⌜ (s .count < 386) × (length (now heads) ≡ 386) × (length (now coefficients) ≡ 386) × Shaped (tables (now doubles) (now integers)) × Listed (sought .model)
+        × (now isotherm ≡ isothermFor (tables (now doubles) (now integers)) sought) ⌝ }
+    ensures { λ r. ⌜ Kept (is.keepStep (rootFor (tables (now (doubles .entry)) (now (integers .entry))) (now (gradients .entry)) sought) (sought .pressure)
+        (found .«first_negative») (found .«last_negative») (found .density) (found .residual)) s
         (now (heads .entry)) (now (coefficients .entry)) r (now (heads .exit)) (now (coefficients .exit)) ⌝ }
 {
     if s.refused != 0 {
         return s;
     }
-    if (first < density) & (density < last) {
+    if (found.first_negative < found.density) & (found.density < found.last_negative) {
         return s;
     }
-    if residual > limit(target) {
+    if found.residual > limit(sought.pressure) {
         return Settled {
             count: s.count,
             refused: 22,
@@ -160,10 +163,8 @@ fn keep_step<'a>(
         integers,
         isotherm,
         gradients,
-        model,
-        range,
-        temperature,
-        density,
+        sought,
+        found.density,
     )
 }
 
@@ -178,14 +179,11 @@ pub fn settle<'a>(
     integers: &'a [u8; 1631],
     isotherm: &'a [f64; 939],
     gradients: &'a [[f64; 21]; 2],
-    model: GergModel,
-    range: Range,
-    temperature: f64,
-    target: f64,
+    sought: Sought,
 ) -> Settled
-    requires { ⌜ (scan .count ≤ 386) × (length (now densities) ≡ 386) × (length (now heads) ≡ 386) × (length (now coefficients) ≡ 386) × Shaped (tables (now doubles) (now integers)) × Listed model
-        × (now isotherm ≡ isothermOf (tables (now doubles) (now integers)) model temperature) ⌝ }
-    ensures { λ r. ⌜ Settles (is.keptOf (is.rootAt (tables (now (doubles .entry)) (now (integers .entry))) model (now (gradients .entry)) range temperature) target
+    requires { ⌜ (scan .count ≤ 386) × (length (now densities) ≡ 386) × (length (now heads) ≡ 386) × (length (now coefficients) ≡ 386) × Shaped (tables (now doubles) (now integers)) × Listed (sought .model)
+        × (now isotherm ≡ isothermFor (tables (now doubles) (now integers)) sought) ⌝ }
+    ensures { λ r. ⌜ Settles (is.keptOf (rootFor (tables (now (doubles .entry)) (now (integers .entry))) (now (gradients .entry)) sought) (sought .pressure)
         (scannedOf scan (now (densities .entry)) (now (residuals .entry)))) r (now (heads .exit)) (now (coefficients .exit)) ⌝ }
 {
     let n = scan.count;
@@ -197,6 +195,14 @@ pub fn settle<'a>(
     };
     let mut i = 0usize;
     while i < n {
+        let density = densities[i];
+        let residual = residuals[i];
+        let found = Candidate {
+            density,
+            residual,
+            first_negative: first,
+            last_negative: last,
+        };
         s = keep_step(
             s,
             heads,
@@ -205,14 +211,8 @@ pub fn settle<'a>(
             integers,
             isotherm,
             gradients,
-            model,
-            range,
-            temperature,
-            target,
-            first,
-            last,
-            densities[i],
-            residuals[i],
+            sought,
+            found,
         );
         i += 1;
     }

@@ -1,4 +1,3 @@
 -- Fugacity coefficients.
 pub mod Fugacity
-pub mod FugacityPowers
-pub mod FugacityLaws
+pub mod FugacityNumbers

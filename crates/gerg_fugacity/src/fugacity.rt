@@ -1,17 +1,17 @@
 // Fugacity coefficients of a state: ln φ of each listed component.
-use super::composition;
-use elementary::ln::ln;
+use elementary_ln::ln::ln;
 use gerg::GergState;
-use gerg::derivatives::GergDerivatives;
+use gerg_composition::composition;
 use gerg_model::GergModel;
 use gerg_model::mixture;
+use gerg_terms::derivatives::GergDerivatives;
 ghost use mathlib.Core.Path.{_≡_};
 ghost use Prim.Native.Nat.{_≤_, _<_};
 ghost use lib.Ieee.{nan};
 ghost use lib.ListN.{length, getD};
 ghost use Rattle.numerics.specs.Fill.{filled};
 ghost use Rattle.gerg_tables.specs.Tables.{tables, Shaped};
-ghost use Rattle.gerg_model.specs.Mixture.{Listed};
+ghost use Rattle.gerg_model.specs.Listed.{Listed};
 ghost use Rattle.gerg_fugacity.specs.Fugacity as fug;
 
 pub enum FugacityCheck {

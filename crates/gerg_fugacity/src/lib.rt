@@ -1,3 +1,2 @@
 // GERG-2008: the fugacity coefficients of a mixture.
-pub mod composition;
 pub mod fugacity;

@@ -1,6 +1,6 @@
 -- The mixture: rows 3 to 5, the model and its gradients.
 pub mod MixtureCheck
+pub mod Accepted
+pub mod MixtureNumbers
 pub mod Mixture
-pub mod MixtureLaws
-pub mod MixtureAccepted
-pub mod MixtureCases
+pub mod Listed

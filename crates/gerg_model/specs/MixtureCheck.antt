@@ -1,8 +1,7 @@
 -- Rows 3 and 4: the component list and the fractions.
-use mathlib.Core.Bool.{Bool, true, false, not, _&&_, _||_}
-use mathlib.Core.Path.{_≡_}
+use mathlib.Core.Bool.{Bool, not, _&&_, _||_}
 use mathlib.Core.List.{List}
-use Prim.Native.Nat.{ℕ, zero, suc, _+_, _≤_, _<_}
+use Prim.Native.Nat.{ℕ, zero, suc, _+_}
 use lib.Dec.{leb, ltb, eqb}
 use lib.Ieee.{Float, nan, lt, le, neg}
 use lib.Ieee.Scale.{finite}
@@ -39,8 +38,7 @@ sumTolerance = bits 0x3e11_2e0b_e826_d695
 unfoldable pub addsUp : List Float → Bool
 addsUp fractions = le (neg sumTolerance) (sumOf fractions ⊖ one) && le (sumOf fractions ⊖ one) sumTolerance
 
--- "component list empty, over 21, number unknown or repeated: 3, first bad place from 0"; then
--- "length differs (list length), then nonfinite or negative (first bad place), then bad sum (list length): 4"
+-- "component list empty, over 21, number unknown or repeated: 3, first bad place from 0"; then "length differs (list length), then nonfinite or negative (first bad place), then bad sum (list length): 4"
 unfoldable pub checkOf : List ℕ → List Float → MixtureCheck
 checkOf list fractions =
     pick (eqb (length list) 0) (Refused 3 0)
@@ -48,13 +46,3 @@ checkOf list fractions =
     (pick (not (eqb (length fractions) (length list))) (Refused 4 (length list))
     (pick (ltb (firstPlace (badFraction fractions) (length fractions) 0) (length fractions)) (Refused 4 (firstPlace (badFraction fractions) (length fractions) 0))
     (pick (addsUp fractions) Sound (Refused 4 (length list))))))
-
--- what a list that passed has: at most 21 places, and a number from 1 to 21 at each
-pub record KnownList (list : List ℕ) : Type 0 where
-  pub few : length list ≤ 21
-  pub known : (k : ℕ) → k < length list → (0 < getD list k 0) × (getD list k 0 ≤ 21)
-
--- and with fractions that passed: as many
-pub record Accepted (list : List ℕ) (fractions : List Float) : Type 0 where
-  pub listed : KnownList list
-  pub paired : length fractions ≡ length list

@@ -1,7 +1,7 @@
-// The mixture: component list and fractions (rows 3 and 4), the model, its reducing values, and row 5.
-pub mod gradients;
+// The mixture: component list and fractions (rows 3 and 4), the model, and row 5.
 
 use super::GergModel;
+use gerg_reducing::reducing;
 use gerg_tables::named;
 ghost use mathlib.Core.Path.{_≡_};
 ghost use mathlib.Core.Bool.{_||_, not};
@@ -11,6 +11,7 @@ ghost use lib.Ieee.{nan};
 ghost use lib.Ieee.Scale.{finite};
 ghost use lib.ListN.{length, getD};
 ghost use Rattle.gerg_model.specs.MixtureCheck as check;
+ghost use Rattle.gerg_model.specs.Accepted.{KnownList, Accepted};
 ghost use Rattle.gerg_model.specs.Mixture as mix;
 
 pub enum MixtureCheck {
@@ -150,7 +151,7 @@ pub fn check_mixture(list: &[u8], fractions: &[f64]) -> MixtureCheck
 }
 
 fn by_component(list: &[u8], fractions: &[f64]) -> [f64; 21]
-    requires { ⌜ check.Accepted (now list) (now fractions) ⌝ }
+    requires { ⌜ Accepted (now list) (now fractions) ⌝ }
     ensures { λ r. ⌜ r ≡ mix.byComponent (now (list .entry)) (now (fractions .entry)) ⌝ }
 {
     let mut x = [0.0; 21];
@@ -163,7 +164,7 @@ fn by_component(list: &[u8], fractions: &[f64]) -> [f64; 21]
 }
 
 fn indices(list: &[u8]) -> [u8; 21]
-    requires { ⌜ check.KnownList (now list) ⌝ }
+    requires { ⌜ KnownList (now list) ⌝ }
     ensures { λ r. ⌜ r ≡ mix.indicesOf (now (list .entry)) ⌝ }
 {
     let mut a = [0u8; 21];
@@ -185,91 +186,15 @@ fn molar_mass(doubles: &[f64; 4086], x: &[f64; 21]) -> f64
     mass
 }
 
-// b of the reducing volume (row 0) or temperature (row 1).
-fn b_of_pair(doubles: &[f64; 4086], row: usize, i: usize, j: usize) -> f64
-    requires { ⌜ (i < 21) × (j < 21) ⌝ }
-    ensures { λ r. ⌜ r ≡ mix.bij (now (doubles .entry)) row i j ⌝ }
-{
-    if row == 0 {
-        return named::bvij(doubles, i, j);
-    }
-    named::btij(doubles, i, j)
-}
-
-fn g_of_pair(doubles: &[f64; 4086], row: usize, i: usize, j: usize) -> f64
-    requires { ⌜ (i < 21) × (j < 21) ⌝ }
-    ensures { λ r. ⌜ r ≡ mix.gij (now (doubles .entry)) row i j ⌝ }
-{
-    if row == 0 {
-        return named::gvij(doubles, i, j);
-    }
-    named::gtij(doubles, i, j)
-}
-
-// g, doubled for i ≠ j.
-fn weight_of_pair(doubles: &[f64; 4086], row: usize, i: usize, j: usize) -> f64
-    requires { ⌜ (i < 21) × (j < 21) ⌝ }
-    ensures { λ r. ⌜ r ≡ mix.weight (now (doubles .entry)) row i j ⌝ }
-{
-    let g = g_of_pair(doubles, row, i, j);
-    if i == j {
-        return 1.0 * g;
-    }
-    2.0 * g
-}
-
-fn reducing_pair(
-    doubles: &[f64; 4086],
-    x: &[f64; 21],
-    row: usize,
-    i: usize,
-    j: usize,
-    value: f64,
-) -> f64
-    requires { ⌜ (i < 21) × (j < 21) ⌝ }
-    ensures { λ r. ⌜ r ≡ mix.reducingPair (now (doubles .entry)) (now (x .entry)) row i j value ⌝ }
-{
-    let xi = x[i];
-    let xj = x[j];
-    if (xi + xj == 0.0) | (xi == 0.0) | (xj == 0.0) {
-        return value;
-    }
-    let b = b_of_pair(doubles, row, i, j);
-    let weight = weight_of_pair(doubles, row, i, j);
-    value + weight * (xi * xj * (xi + xj) / (b * xi + xj))
-}
-
-fn reducing_row(doubles: &[f64; 4086], x: &[f64; 21], row: usize, i: usize, value: f64) -> f64
-    requires { ⌜ i < 21 ⌝ }
-    ensures { λ r. ⌜ r ≡ mix.reducingRow (now (doubles .entry)) (now (x .entry)) row i value ⌝ }
-{
-    let mut sum = value;
-    for j in i..21 {
-        sum = reducing_pair(doubles, x, row, i, j, sum);
-    }
-    sum
-}
-
-// The reducing volume (row 0) or temperature (row 1).
-fn reducing(doubles: &[f64; 4086], x: &[f64; 21], row: usize) -> f64
-    ensures { λ r. ⌜ r ≡ mix.reducing (now (doubles .entry)) (now (x .entry)) row ⌝ }
-{
-    let mut sum = 0.0;
-    for i in 0..21 {
-        sum = reducing_row(doubles, x, row, i, sum);
-    }
-    sum
-}
-
 // The model of a list and fractions that passed.
 pub fn model(doubles: &[f64; 4086], list: &[u8], fractions: &[f64]) -> GergModel
-    requires { ⌜ check.Accepted (now list) (now fractions) ⌝ }
+    requires { ⌜ Accepted (now list) (now fractions) ⌝ }
     ensures { λ r. ⌜ r ≡ mix.modelOf (now (doubles .entry)) (now (list .entry)) (now (fractions .entry)) ⌝ }
 {
     let x = by_component(list, fractions);
     let component_indices = indices(list);
-    let temperature = reducing(doubles, &x, 1);
-    let volume = reducing(doubles, &x, 0);
+    let temperature = reducing::reducing(doubles, &x, 1);
+    let volume = reducing::reducing(doubles, &x, 0);
     let mass = molar_mass(doubles, &x);
     GergModel {
         fractions: x,

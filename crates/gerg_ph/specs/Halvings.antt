@@ -1,10 +1,11 @@
 -- The halvings of an interval of temperatures, their trials, and the answer. `v` gives the verdict at each temperature.
-use mathlib.Core.Bool.{Bool, true, false, not, _&&_, _||_}
+use mathlib.Core.Bool.{Bool, false, not, _&&_, _||_}
 use mathlib.Core.List.{List, [], _∷_}
 use Prim.Native.Nat.{ℕ, zero, suc}
 use lib.Ieee.{Float, lt, eq}
 use lib.ListN.{length}
-use Rattle.numerics.specs.Double.{_⊕_, _⊖_, _⊗_, bits, +0, pick}
+use Rattle.numerics.specs.Double.{+0, pick}
+use Rattle.numerics.specs.Middle.{middle}
 use Rattle.gerg_ph.specs.declared.PureSaturation.{PureSaturation}
 use Rattle.gerg_ph.specs.declared.Interval.{Interval}
 use Rattle.gerg_ph.specs.declared.Verdict.{Verdict}
@@ -12,13 +13,9 @@ use Rattle.gerg_ph.specs.declared.Verdict.the-variants as verdict
 use Rattle.gerg_ph.specs.declared.SaturationAnswer.{SaturationAnswer}
 use Rattle.gerg_ph.specs.declared.SaturationAnswer.the-variants.{Found, NotEnclosed, Refused}
 
--- 0.5
-abbrev pub half : Float
-half = bits 0x3fe0_0000_0000_0000
-
 -- "the middle"
-unfoldable pub middleOf : Interval → Float
-middleOf b = b .lo ⊕ half ⊗ (b .hi ⊖ b .lo)
+abbrev pub middleOf : Interval → Float
+middleOf b = middle (b .lo) (b .hi)
 
 -- "strictly between the two ends that stand before it"
 unfoldable pub betweenOf : Interval → Float → Bool
@@ -38,8 +35,7 @@ onward b x (verdict.Apart difference) go end = pick (onEnd b x) end (go (narrowe
 onward b x (verdict.Accepted s) go end = end
 onward b x (verdict.Refused n) go end = end
 
--- "A saturation trial is a point tried strictly between the two ends that stand before it; the trials are the list of these, .. one that ends it with a refusal included":
--- of the interval b, n halvings at most
+-- "A saturation trial is a point tried strictly between the two ends that stand before it; the trials are the list of these, .. one that ends it with a refusal included": of the interval b, n halvings at most
 unfoldable pub trialsFrom : (Float → Verdict) → ℕ → Interval → List Float
 trialsFrom v zero b = []
 trialsFrom v (suc n) b =

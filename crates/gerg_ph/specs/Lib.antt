@@ -1,8 +1,7 @@
--- The saturation temperature of a pure fluid: what is tested first, the sample at a temperature, the halvings, and the answer.
+-- The saturation temperature of a pure fluid: what is tested first, the sample at a temperature, the halvings, the answer, document 01's number and value of it; the code's struct.
 pub mod Checks
 pub mod Sampling
 pub mod Halvings
 pub mod Saturation
-pub mod SamplingLaws
-pub mod HalvingsLaws
-pub mod SaturationLaws
+pub mod SaturationNumbers
+pub mod Isobars

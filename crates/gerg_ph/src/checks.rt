@@ -1,4 +1,4 @@
-// Row 25: one positive fraction, and ends that rise.
+// The rows that need no root: 25, which wants one positive fraction and ends that rise, and those that follow it.
 
 use crate::Positive;
 use gerg_model::GergModel;
@@ -8,7 +8,7 @@ ghost use mathlib.Core.Path.{_≡_};
 ghost use Prim.Native.Nat.{_+_, _^_, _<_};
 ghost use lib.Ieee.{lt};
 ghost use Rattle.numerics.specs.Double.{+0, pick};
-ghost use Rattle.gerg_model.specs.Mixture.{Listed};
+ghost use Rattle.gerg_model.specs.Listed.{Listed};
 ghost use Rattle.gerg_ph.specs.Checks.{positiveFractions, positivePlace, refusedBy};
 
 // The fraction at place k joins the positive ones if it is one.
@@ -48,4 +48,20 @@ pub fn refused(n: usize, lo: f64, hi: f64) -> bool
     ensures { λ r. ⌜ r ≡ refusedBy n lo hi ⌝ }
 {
     !(n == 1) | !is_finite(lo) | !is_finite(hi) | !(lo < hi)
+}
+
+// The first row that refuses before a root is sought, or 0: 25, 20, then 21 at the low end.
+pub fn first_row(unfit: bool, beyond: bool, within: bool) -> u8
+    ensures { λ r. ⌜ r ≡ pick unfit 25 (pick beyond 20 (pick within 0 21)) ⌝ }
+{
+    if unfit {
+        return 25;
+    }
+    if beyond {
+        return 20;
+    }
+    if within {
+        return 0;
+    }
+    21
 }

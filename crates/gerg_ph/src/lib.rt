@@ -6,6 +6,9 @@ pub mod halving;
 pub mod sampling;
 pub mod saturation;
 
+use gerg::Range;
+use gerg_model::GergModel;
+
 // The numbers of `PureSaturation` in saturation.rs.
 pub struct PureSaturation {
     pub temperature_k: f64,
@@ -44,6 +47,21 @@ pub enum Verdict {
 pub struct Interval {
     pub lo: f64,
     pub hi: f64,
+}
+
+// What the caller chooses: the interval, and the most halvings of it.
+pub struct Options {
+    pub interval: Interval,
+    pub limit: usize,
+}
+
+// What stays while temperatures are tried: the model, its range, the place in the list of the one positive fraction, and the pressure in
+// Pa.
+pub struct Isobar {
+    pub model: GergModel,
+    pub range: Range,
+    pub place: usize,
+    pub pressure: f64,
 }
 
 // A saturation, none between the ends, or document 01's number and value.

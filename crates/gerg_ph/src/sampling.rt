@@ -1,20 +1,20 @@
 // What the exterior roots at a temperature tell of saturation.
 
+use crate::Isobar;
 use crate::PureSaturation;
 use crate::Sample;
 use crate::Verdict;
-use gerg::Range;
 use gerg_flash::Settled;
 use gerg_flash::roots;
-use gerg_model::GergModel;
+use gerg_scan::Sought;
 ghost use mathlib.Core.Path.{_≡_};
 ghost use Prim.Native.Nat.{_<_, _≤_};
-ghost use lib.Ieee.{nan};
-ghost use lib.ListN.{length, getD};
+ghost use lib.ListN.{length};
 ghost use Rattle.gerg_tables.specs.Tables.{tables, Shaped};
-ghost use Rattle.gerg_model.specs.Mixture.{Listed};
+ghost use Rattle.gerg_model.specs.Listed.{Listed};
+ghost use Rattle.gerg_grid.specs.GridArray.{HoldsGrid};
 ghost use Rattle.gerg_flash.specs.Roots.{settledOf, searchedOf};
-ghost use Rattle.gerg_ph.specs.Checks.{positivePlace};
+ghost use Rattle.gerg_ph.specs.Isobars.{Tested};
 ghost use Rattle.gerg_ph.specs.Sampling.{magnitudeOf, signOf, saturationOf, coexistingOf, rootsSample, sampleOf, verdictOf};
 
 // The size of a number: +0 for either zero.
@@ -88,13 +88,12 @@ fn from_roots<'a>(
     s: Settled,
     heads: &'a [[f64; 4]; 386],
     coefficients: &'a [[f64; 21]; 386],
-    reducing_density: f64,
-    place: usize,
+    isobar: Isobar,
     temperature: f64,
-    pressure: f64,
 ) -> Sample
-    requires { ⌜ (s .count ≤ 386) × (length (now heads) ≡ 386) × (length (now coefficients) ≡ 386) × (place < 21) ⌝ }
-    ensures { λ r. ⌜ r ≡ rootsSample «reducing_density» place temperature pressure (settledOf s (now (heads .entry)) (now (coefficients .entry))) ⌝ }
+    requires { ⌜ (s .count ≤ 386) × (length (now heads) ≡ 386) × (length (now coefficients) ≡ 386) × (isobar .place < 21) ⌝ }
+    ensures { λ r. ⌜ r ≡ rootsSample (isobar .model .«reducing_density») (isobar .place) temperature (isobar .pressure)
+        (settledOf s (now (heads .entry)) (now (coefficients .entry))) ⌝ }
 {
     let n = s.count;
     if s.refused != 0 {
@@ -104,13 +103,14 @@ fn from_roots<'a>(
         return Sample::Refused(23);
     }
     if n == 1 {
-        return Sample::Single(sign(reducing_density, &heads[0]));
+        let model = isobar.model;
+        return Sample::Single(sign(model.reducing_density, &heads[0]));
     }
     let last = n - 1;
     coexisting(
-        place,
+        isobar.place,
         temperature,
-        pressure,
+        isobar.pressure,
         &heads[last],
         &coefficients[last],
         &heads[0],
@@ -120,69 +120,62 @@ fn from_roots<'a>(
 
 // The roots live as long as their sample.
 fn at_roots<'a>(
+    points: &'a [f64; 386],
+    count: usize,
     doubles: &'a [f64; 4086],
     integers: &'a [u8; 1631],
     gradients: &'a [[f64; 21]; 2],
-    model: GergModel,
-    range: Range,
-    place: usize,
-    pressure: f64,
+    isobar: Isobar,
     temperature: f64,
 ) -> Sample
-    requires { ⌜ Shaped (tables (now doubles) (now integers)) × Listed model × (place < 21) ⌝ }
-    ensures { λ r. ⌜ r ≡ rootsSample (model .«reducing_density») place temperature pressure
-        (searchedOf (tables (now (doubles .entry)) (now (integers .entry))) model (now (gradients .entry)) range temperature pressure) ⌝ }
+    requires { ⌜ HoldsGrid (now points) count × Shaped (tables (now doubles) (now integers)) × Listed (isobar .model) × (isobar .place < 21) ⌝ }
+    ensures { λ r. ⌜ r ≡ rootsSample (isobar .model .«reducing_density») (isobar .place) temperature (isobar .pressure)
+        (searchedOf (tables (now (doubles .entry)) (now (integers .entry))) (isobar .model) (now (gradients .entry)) (isobar .range) temperature (isobar .pressure)) ⌝ }
 {
     let mut heads = [[0.0; 4]; 386];
     let mut coefficients = [[0.0; 21]; 386];
-    let s = roots::exterior_roots(
-        &mut heads,
-        &mut coefficients,
-        doubles,
-        integers,
-        gradients,
+    let model = isobar.model;
+    let range = isobar.range;
+    let sought = Sought {
         model,
         range,
         temperature,
-        pressure,
+        pressure: isobar.pressure,
+    };
+    let s = roots::exterior_roots(
+        &mut heads,
+        &mut coefficients,
+        points,
+        count,
+        doubles,
+        integers,
+        gradients,
+        sought,
     );
-    from_roots(
-        s,
-        &heads,
-        &coefficients,
-        model.reducing_density,
-        place,
-        temperature,
-        pressure,
-    )
+    from_roots(s, &heads, &coefficients, isobar, temperature)
 }
 
-// Rows 20 and 21, then the roots.
+// Row 21, then the roots; row 20 belongs to the model and is tested before.
 pub fn sample<'a>(
+    points: &'a [f64; 386],
+    count: usize,
     doubles: &'a [f64; 4086],
     integers: &'a [u8; 1631],
     gradients: &'a [[f64; 21]; 2],
-    model: GergModel,
-    range: Range,
-    place: usize,
-    pressure: f64,
+    isobar: Isobar,
     temperature: f64,
 ) -> Sample
-    requires { ⌜ Shaped (tables (now doubles) (now integers)) × Listed model × (place ≡ positivePlace model) × (place < 21) ⌝ }
-    ensures { λ r. ⌜ r ≡ sampleOf (tables (now (doubles .entry)) (now (integers .entry))) model (now (gradients .entry)) range pressure temperature ⌝ }
+    requires { ⌜ HoldsGrid (now points) count × Shaped (tables (now doubles) (now integers)) × Tested isobar ⌝ }
+    ensures { λ r. ⌜ r ≡ sampleOf (tables (now (doubles .entry)) (now (integers .entry))) (isobar .model) (now (gradients .entry)) (isobar .range) (isobar .pressure) temperature ⌝ }
 {
-    if roots::beyond_five(model) {
-        return Sample::Refused(20);
-    }
-    if roots::within_envelope(temperature, pressure) {
+    if roots::within_envelope(temperature, isobar.pressure) {
         return at_roots(
+            points,
+            count,
             doubles,
             integers,
             gradients,
-            model,
-            range,
-            place,
-            pressure,
+            isobar,
             temperature,
         );
     }

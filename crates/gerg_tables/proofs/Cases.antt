@@ -9,13 +9,14 @@ use Rattle.gerg_tables.specs.declared.Answer.{Answer}
 use Rattle.gerg_tables.specs.declared.Answer.the-variants.{Accepted, Refused, Faulty}
 use Rattle.gerg_tables.specs.declared.TableFile.{TableFile}
 use Rattle.gerg_tables.specs.declared.Tables.{Tables}
-use Rattle.gerg_tables.specs.declared.file.File.{File}
-use Rattle.gerg_tables.specs.declared.file.File.the-variants.{Malformed, WellFormed}
-use Rattle.gerg_tables.specs.declared.file.Layout.{Layout}
-use Rattle.gerg_tables.specs.File.{fileOf}
-use Rattle.gerg_tables.specs.Load.{loaded, noTables}
+use Rattle.gerg_file.specs.declared.File.{File}
+use Rattle.gerg_file.specs.declared.File.the-variants.{Malformed, WellFormed}
+use Rattle.gerg_file.specs.declared.Layout.{Layout}
+use Rattle.gerg_file.specs.File.{fileOf}
+use Rattle.gerg_tables.specs.Load.{doubles, integers, loaded, noTables}
 use Rattle.gerg_tables.specs.Check.{faultOf}
-use Rattle.gerg_tables.specs.Answer.{judged, answerAs, answerOf, tablesAs, tablesOf, tableFileOf}
+use Rattle.gerg_tables.specs.Answer.{judged, answerAs, answerOf, tablesAs, tablesOf}
+use Rattle.gerg_tables.specs.TableFile.{tableFileOf}
 
 pub accepted : {f : ℕ} (length : ℕ) → f ≡ 0 → Accepted length ≡ judged f length
 accepted length e = ap (λ (f : ℕ). judged f length) (sym e)
@@ -37,6 +38,11 @@ well-formed s {l} {t = t} e q h g r =
     ap (λ (a : Answer). record { answer = a; tables = t }) (r ∙ ap (λ (f : ℕ). judged f (l .length)) g)
     ∙ ap (λ (t : Tables). record { answer = judged (faultOf (t .doubles) (t .integers) (l .count)) (l .length); tables = t }) h
     ∙ ap (λ (w : File). record { answer = answerAs s w; tables = tablesAs s w }) (sym q ∙ e)
+
+pub loaded-is : (s : List ℕ) (l : Layout) {d : List Float} {n : List ℕ} → d ≡ doubles s l → n ≡ integers s l
+    → _≡_ {A = Tables} (record { doubles = d; integers = n }) (loaded s l)
+unfolding loaded
+loaded-is s l e g = rw (e, g)
 
 -- what a caller of `read_tables` has of its result
 pub read-answer : (s : List ℕ) {r : TableFile} → r ≡ tableFileOf s → r .answer ≡ answerOf s

@@ -1,16 +1,48 @@
--- Where all numbers of the pairs are finite, none of causes 1 to 5 holds.
+-- Where the patterns of the pairs' numbers are those of finite doubles, none of causes 1 to 5 holds.
 use mathlib.Core.Path.{_≡_, refl, sym, ap, _∙_}
 use mathlib.Core.Bool.{Bool, true, false, not, _&&_, _||_, cond}
 use mathlib.Core.List.{List}
-use mathlib.Core.Logic.{_⊎_, inl, inr}
-use Prim.Native.Nat.{ℕ, zero, suc, _+_, _-_, _*_, _≤_, _<_}
-use native.Mathlib.Numerals.{add-one}
-use native.Mathlib.Nat.{eq-or-lt-of-le}
+use Prim.Native.Nat.{ℕ, zero, suc, _+_, _-_, _*_, _/_, _%_, _^_, _≤_, _<_}
+use borrow.Author.Count.{below-more}
+use borrow.Author.Tests.{ne-eqb, le-leb, lt-ltb}
+use native.Mathlib.Nat.{div-lt-iff-lt-mul}
 use native.Mathlib.Omega.{arith}
+use lib.Dec.{leb, ltb, eqb}
 use lib.ListN.{getD}
-use lib.Ieee.{Float, nan}
+use lib.Ieee.{Float, nan, inf, fin, binary64, odd, ofFields, ofBits}
 use lib.Ieee.Scale.{finite}
-use Rattle.gerg_tables.specs.Check.{some, someFrom, orElse, first, nonfinite, someNonfinite, numberFault, finitePairs}
+use Rattle.numerics.specs.Double.{+0}
+use Rattle.gerg_file.specs.Kinds as Kinds
+use Rattle.gerg_file.specs.Bytes.{word, doubleAt}
+use Rattle.gerg_file.specs.Counts.{sum}
+use Rattle.gerg_file.specs.declared.Layout.{Layout}
+use Rattle.gerg_tables.specs.Load.{pairs, present, place, doubles}
+use Rattle.gerg_tables.specs.Filling.{FiniteAt, FinitePairs}
+use Rattle.gerg_tables.specs.Check.{some, someFrom, orElse, first, nonfinite, someNonfinite, numberFault}
+use Rattle.gerg_tables.proofs.Numbers.{fileDouble, pair-number}
+
+-- ---- a pattern whose exponent is not all ones
+finite-odd : (d : ℕ) (s : Bool) (q k l : ℕ) → finite (odd d s q k l) ≡ true
+unfolding odd
+finite-odd d s zero k l = refl
+finite-odd d s (suc q) k l = refl
+
+finite-fields : (s : Bool) (x t : ℕ) → x < 2047 → finite (ofFields binary64 s x t) ≡ true
+unfolding ofFields
+finite-fields s zero t h = finite-odd 53 s t 0 1074
+finite-fields s (suc x) t h = rw (ne-eqb (suc x) 2047 (λ e. omega arith)) (finite-odd 53 s (2 ^ 52 + t) x 1074)
+
+pub finite-pattern : (w : ℕ) → w % 0x8000_0000_0000_0000 < 0x7ff0_0000_0000_0000 → finite (ofBits binary64 w) ≡ true
+unfolding ofBits
+finite-pattern w h = finite-fields _ (w % 0x8000_0000_0000_0000 / 2 ^ 52) _ (omega arith)
+
+pub finite-double : (s : List ℕ) (at w : ℕ) → w ≡ word s at → w % 0x8000_0000_0000_0000 < 0x7ff0_0000_0000_0000 → finite (doubleAt s at) ≡ true
+unfolding doubleAt
+finite-double s at w e h = rw e at (finite-pattern w h)
+
+-- ---- one number more, one record more
+pub finite-on : (s : List ℕ) (at k : ℕ) → FiniteAt s at k → finite (doubleAt s (at + 8 * k)) ≡ true → FiniteAt s at (k + 1)
+finite-on s at k before here = below-more (λ (j : ℕ). finite (doubleAt s (at + 8 * j)) ≡ true) k before here
 
 and-left : (a b : Bool) → (a && b) ≡ true → a ≡ true
 and-left true b e = refl
@@ -21,6 +53,11 @@ and-right true b e = e
 and-right false true e = refl
 and-right false false e = e
 
+pub finite-turn : (P : ℕ → Type 0) (k : ℕ) (a b : Bool) → (a ≡ true → (j : ℕ) → j < k → P j) → (b ≡ true → P k)
+    → (a && b) ≡ true → (j : ℕ) → j < k + 1 → P j
+finite-turn P k a b before here e = below-more P k (before (and-left a b e)) (here (and-right a b e))
+
+-- ---- no fault
 some-none : (f : ℕ → Bool) (n a : ℕ) → ((k : ℕ) → a ≤ k → k < a + n → f k ≡ false) → some f n a ≡ false
 unfolding some
 some-none f zero a h = refl
@@ -34,38 +71,29 @@ first-none f zero i h = refl
 first-none f (suc n) i h =
     ap (λ (a : ℕ). orElse a (first f n (i + 1))) (h i (omega arith)) ∙ first-none f n (i + 1) (λ k q. h k (omega arith))
 
-module _ (doubles : List Float) where
-  pub finite-none : finitePairs doubles 0 ≡ true
-  unfolding finitePairs
-  finite-none = refl
+module _ (s : List ℕ) (l : Layout) (all : (i : ℕ) → i < 21 → FinitePairs s (l .pairs) i) where
+  pair-is : (q i j : ℕ) → q < 5 → i ≤ j → j < 21
+      → getD (doubles s l) (1281 + 105 * i + 5 * j + q) nan
+      ≡ doubleAt s (l .pairs + Kinds.pair .size * (sum (λ h. 20 - h) i + i) + Kinds.pair .doubles + Kinds.pair .size * (j - i) + 8 * q)
+  unfolding pairs
+  pair-is q i j a b c =
+      ap (λ (p : ℕ). getD (doubles s l) p nan) (let p : 1281 + 105 * i + 5 * j + q ≡ 1281 + (105 * i + (5 * j + q)) = omega arith in p)
+      ∙ pair-number s l i j q (omega arith) c a
+      ∙ rw (le-leb i j b, lt-ltb j 21 c)
+      (ap (doubleAt s)
+      (let p : l .pairs + (Kinds.pair .doubles + Kinds.pair .size * (sum (λ h. 20 - h) i + j)) + 8 * q
+      ≡ l .pairs + Kinds.pair .size * (sum (λ h. 20 - h) i + i) + Kinds.pair .doubles + Kinds.pair .size * (j - i) + 8 * q = omega arith in p))
 
-  pub finite-turn : (n : ℕ) {a b : Bool} → a ≡ finitePairs doubles n → b ≡ finite (getD doubles (1281 + n) nan) → (a && b) ≡ finitePairs doubles (n + 1)
-  unfolding finitePairs
-  finite-turn n {a} {b} e g =
-      rw (add-one n) (ap (λ (a : Bool). a && b) e ∙ ap (λ (b : Bool). finitePairs doubles n && b) g)
+  pair-finite : (q i j : ℕ) → q < 5 → i ≤ j → j < 21 → nonfinite (doubles s l) q i j ≡ false
+  pair-finite q i j a b c =
+      ap (λ (x : Float). not (finite x)) (pair-is q i j a b c) ∙ ap not (all i (omega arith) (j - i) (omega arith) q a)
 
-  finite-by : (n k : ℕ) → (finitePairs doubles n ≡ true → k < n → finite (getD doubles (1281 + k) nan) ≡ true)
-      → (finitePairs doubles n && finite (getD doubles (1281 + n) nan)) ≡ true → (k ≡ n) ⊎ (k < n) → finite (getD doubles (1281 + k) nan) ≡ true
-  finite-by n k before e (inl q) = ap (λ (k : ℕ). finite (getD doubles (1281 + k) nan)) q ∙ and-right (finitePairs doubles n) _ e
-  finite-by n k before e (inr q) = before (and-left _ (finite (getD doubles (1281 + n) nan)) e) q
+  none-nonfinite : (q : ℕ) → q < 5 → someNonfinite (doubles s l) q ≡ false
+  unfolding someNonfinite
+  none-nonfinite q a =
+      some-none (λ i. someFrom (nonfinite (doubles s l) q i) i) 21 0
+      (λ i g h. some-none (nonfinite (doubles s l) q i) (21 - i) i (λ j k l. pair-finite q i j a k (omega arith)))
 
-  finite-at : (n k : ℕ) → finitePairs doubles n ≡ true → k < n → finite (getD doubles (1281 + k) nan) ≡ true
-  unfolding finitePairs
-  finite-at zero k e h = absurd (omega arith)
-  finite-at (suc n) k e h = let g : k ≤ n = omega arith in finite-by n k (finite-at n k) e (eq-or-lt-of-le g)
-
-  module _ (e : finitePairs doubles 2205 ≡ true) where
-    pair-finite : (q i j : ℕ) → q < 5 → i < 21 → j < 21 → nonfinite doubles q i j ≡ false
-    pair-finite q i j a b c =
-        let p : 1281 + 105 * i + 5 * j + q ≡ 1281 + (105 * i + 5 * j + q) = omega arith in
-        ap (λ (k : ℕ). not (finite (getD doubles k nan))) p
-        ∙ ap (λ (b : Bool). not b) (finite-at 2205 (105 * i + 5 * j + q) e (omega arith))
-
-    none-nonfinite : (q : ℕ) → q < 5 → someNonfinite doubles q ≡ false
-    unfolding someNonfinite
-    none-nonfinite q a =
-        some-none (λ i. someFrom (nonfinite doubles q i) i) 21 0
-        (λ i g h. some-none (nonfinite doubles q i) (21 - i) i (λ j k l. pair-finite q i j a (omega arith) (omega arith)))
-
-    pub no-number-fault : first (numberFault doubles) 5 0 ≡ 0
-    no-number-fault = first-none (numberFault doubles) 5 0 (λ q h. ap (λ (b : Bool). cond b (q + 1) 0) (none-nonfinite q (omega arith)))
+  pub no-number-fault : first (numberFault (doubles s l)) 5 0 ≡ 0
+  no-number-fault =
+      first-none (numberFault (doubles s l)) 5 0 (λ q h. ap (λ (b : Bool). cond b (q + 1) 0) (none-nonfinite q (omega arith)))

@@ -10,16 +10,19 @@ use lib.ListN.{length, getD}
 use Rattle.gerg_tables.specs.declared.Answer.{Answer}
 use Rattle.gerg_tables.specs.declared.Answer.the-variants.{Accepted, Refused, Faulty}
 use Rattle.gerg_tables.specs.declared.Tables.{Tables}
-use Rattle.gerg_tables.specs.declared.file.File.{File}
-use Rattle.gerg_tables.specs.declared.file.File.the-variants.{Malformed, WellFormed}
-use Rattle.gerg_tables.specs.declared.file.Layout.{Layout}
-use Rattle.gerg_tables.specs.Bytes.{byte, termCount}
+use Rattle.gerg_file.specs.Kinds as Kinds
+use Rattle.gerg_file.specs.Bytes.{byte, termCount}
+use Rattle.gerg_file.specs.File.{fileOf}
+use Rattle.gerg_file.specs.Laid.{Laid}
+use Rattle.gerg_file.specs.Counts.{termsOf, departuresOf}
+use Rattle.gerg_file.specs.declared.File.{File}
+use Rattle.gerg_file.specs.declared.File.the-variants.{Malformed, WellFormed}
+use Rattle.gerg_file.specs.declared.Layout.{Layout}
+use Rattle.gerg_file.proofs.Laws.Laid.{laid-out, counts-are}
 use Rattle.gerg_tables.specs.Tables.{Shaped, kpol, kexp, mNumb, kpolij, kexpij}
-use Rattle.gerg_tables.specs.File.{fileOf}
-use Rattle.gerg_tables.specs.Load.{present, place, components, functions, doubles, integers, loaded}
+use Rattle.gerg_tables.specs.Load.{present, place, functions, doubles, integers, loaded}
 use Rattle.gerg_tables.specs.Check.{some, someFrom, orElse, first, badNumber, someBadNumber, numberFault, componentFault, faultOf}
 use Rattle.gerg_tables.specs.Answer.{judged, answerAs, answerOf, tablesAs, tablesOf}
-use Rattle.gerg_tables.proofs.WellFormed.{terms-limit, count-limit, departures-limit, length-is}
 use Rattle.gerg_tables.proofs.Numbers.{fileByte, count-number, function-byte}
 
 -- a search that found nothing
@@ -64,28 +67,35 @@ judged-accepted (suc f) length n e = let z : _≡_ {A = ℕ} 0 1 = cc in absurd 
 
 module _ (s : List ℕ) (l : Layout) (e : fileOf s ≡ WellFormed l) where
   -- the counts of a component are those of its record
-  count-byte : (i c : ℕ) → i < 21 → c < 2 → getD (integers s l) (2 * i + c) 0 ≡ byte s (41 + 108 * i + 18 + c)
-  unfolding components
-  count-byte i c h g =
-      count-number s l i c h g
-      ∙ rw (le-leb 0 i (omega arith), lt-ltb i 21 h) (ap (byte s) (let q : 41 + (18 + 108 * (0 + i)) + c ≡ 41 + 108 * i + 18 + c = omega arith in q))
-
   terms-shaped : (i : ℕ) → i < 21 → kpol (integers s l) i + kexp (integers s l) i ≤ 24
+  unfolding termsOf
   terms-shaped i h =
-      let a = count-byte i 0 h (omega arith) in
-      let b = count-byte i 1 h (omega arith) in
-      let t = terms-limit s l e i h in
-      let u : getD (integers s l) (2 * i) 0 ≡ byte s (41 + 108 * i + 18) =
+      let a = count-number s l i 0 h (omega arith) in
+      let b = count-number s l i 1 h (omega arith) in
+      let t : termCount s (Kinds.revision .size + (Kinds.component .counts + Kinds.component .size * i)) ≤ 24 = laid-out s l e .terms-limit i h in
+      let u : getD (integers s l) (2 * i) 0 ≡ byte s (Kinds.revision .size + (Kinds.component .counts + Kinds.component .size * i)) =
       ap (λ (p : ℕ). getD (integers s l) p 0) (let q : 2 * i ≡ 2 * i + 0 = omega arith in q) ∙ a
-      ∙ ap (byte s) (let q : 41 + 108 * i + 18 + 0 ≡ 41 + 108 * i + 18 = omega arith in q) in
+      ∙ ap (byte s)
+      (let q : Kinds.revision .size + Kinds.component .counts + Kinds.component .size * i + 0 ≡ Kinds.revision .size + (Kinds.component .counts + Kinds.component .size * i) =
+      omega arith in q) in
+      let v : getD (integers s l) (2 * i + 1) 0 ≡ byte s (Kinds.revision .size + (Kinds.component .counts + Kinds.component .size * i) + 1) =
+      b ∙ ap (byte s)
+      (let q : Kinds.revision .size + Kinds.component .counts + Kinds.component .size * i + 1
+      ≡ Kinds.revision .size + (Kinds.component .counts + Kinds.component .size * i) + 1 =
+      omega arith in q) in
       omega arith
 
-  function-count : (m c : ℕ) → m < 10 → c < 2 → m < l .count → getD (integers s l) (1491 + (2 * m + c)) 0 ≡ byte s (l .functions + 4 * m + 2 + c)
+  -- those of a departure function too, where the file has it
+  function-count : (m c : ℕ) → m < 10 → c < 2 → m < l .count
+      → getD (integers s l) (1491 + (2 * m + c)) 0 ≡ byte s (l .functions + (Kinds.function .counts + Kinds.function .size * m) + c)
   unfolding functions
   function-count m c h g k =
       function-byte s l m c h g
       ∙ rw (le-leb 0 m (omega arith), lt-ltb m (l .count) k)
-      (ap (byte s) (let q : l .functions + (2 + 4 * (0 + m)) + c ≡ l .functions + 4 * m + 2 + c = omega arith in q))
+      (ap (byte s)
+      (let q : l .functions + (Kinds.function .counts + Kinds.function .size * (0 + m)) + c
+      ≡ l .functions + (Kinds.function .counts + Kinds.function .size * m) + c =
+      omega arith in q))
 
   no-function : (m c : ℕ) → m < 10 → c < 2 → l .count ≤ m → getD (integers s l) (1491 + (2 * m + c)) 0 ≡ 0
   unfolding functions
@@ -102,9 +112,9 @@ module _ (s : List ℕ) (l : Layout) (e : fileOf s ≡ WellFormed l) where
       let k = ltb-true m (l .count) t in
       let a = function-count m 0 h (omega arith) k in
       let b = function-count m 1 h (omega arith) k in
-      let d = departures-limit s l e m k in
-      let v : byte s (l .functions + 4 * m + 2 + 0) ≡ byte s (l .functions + 4 * m + 2) =
-      ap (byte s) (let q : l .functions + 4 * m + 2 + 0 ≡ l .functions + 4 * m + 2 = omega arith in q) in
+      let d : termCount s (l .functions + (Kinds.function .counts + Kinds.function .size * m)) ≤ 12 = rw (counts-are s l e m k) at (laid-out s l e .departures-limit m) in
+      let v : byte s (l .functions + (Kinds.function .counts + Kinds.function .size * m) + 0) ≡ byte s (l .functions + (Kinds.function .counts + Kinds.function .size * m)) =
+      ap (byte s) (omega arith) in
       omega (arith, first-count m, second-count m)
   departures-as m h false t =
       let k = ltb-false m (l .count) t in
@@ -124,7 +134,7 @@ module _ (s : List ℕ) (l : Layout) (e : fileOf s ≡ WellFormed l) where
       let row = none-from (λ i. someFrom (badNumber (integers s l) (l .count) i) (i + 1)) 0 eight i (omega arith) (omega arith) in
       let b = none-from (badNumber (integers s l) (l .count) i) (i + 1) row j (omega arith) g in
       let r = sound-number (mNumb (integers s l) i j) (l .count) b k in
-      let t = count-limit s l e in
+      let t = laid-out s l e .count-limit in
       (r .0, omega arith)
 
   pub well-formed-shaped : faultOf (doubles s l) (integers s l) (l .count) ≡ 0 → Shaped (loaded s l)
@@ -136,7 +146,7 @@ unfolding answerAs tablesAs
 shaped-as s (Malformed at) n e a = let z : _≡_ {A = ℕ} 0 1 = cc in absurd (omega arith)
 shaped-as s (WellFormed l) n e a =
     let j = judged-accepted (faultOf (doubles s l) (integers s l) (l .count)) (l .length) n a in
-    (well-formed-shaped s l e (j .0), j .1 ∙ length-is s l e)
+    (well-formed-shaped s l e (j .0), j .1 ∙ laid-out s l e .length-is)
 
 -- an accepted file's tables are shaped, and its value is the file's length
 pub accepted-shaped : (s : List ℕ) (n : ℕ) → answerOf s ≡ Accepted n → Shaped (tablesOf s)

@@ -1,131 +1,141 @@
 -- The two arrays whole: their blocks stored one after the other.
 use mathlib.Core.Path.{_≡_, refl, sym, ap, _∙_}
-use mathlib.Core.List.{List, [], _++_, append-nil}
+use mathlib.Core.List.{List, [], _++_, append-nil, append-assoc}
 use Prim.Native.Nat.{ℕ, _+_, _*_, _≤_}
 use native.Mathlib.Omega.{arith}
-use lib.ListN.{length, drop, length-append, drop-of-length-le, replicate, length-replicate}
-use lib.Seq.{sets, sets-eq}
+use lib.ListN.{length, length-append, replicate}
+use lib.Seq.{sets}
 use lib.Ieee.{Float}
 use Rattle.numerics.specs.Double.{+0}
-use Rattle.gerg_tables.specs.declared.Tables.{Tables}
-use Rattle.gerg_tables.specs.declared.file.Layout.{Layout}
-use Rattle.gerg_tables.specs.declared.records.Records.{Records}
-use Rattle.gerg_tables.specs.Load.{flat, doublesOf, bytesOf, components, terms, pairs, functions, departures, doubles, integers, loaded}
-use Rattle.gerg_tables.proofs.Put.{sets-on, length-flat, length-doublesOf, length-bytesOf}
-use Rattle.gerg_tables.proofs.Rows.{functions-is}
+use Rattle.gerg_file.specs.declared.Layout.{Layout}
+use Rattle.gerg_tables.specs.Load.{flat, doublesAt, bytesAt, Records, rowOf, critical, ideal, counts, terms, termDoubles, termIntegers, pairs, pairDoubles, pairIntegers, functions, functionIntegers, departures, departureDoubles, departureIntegers, doubles, integers}
+use Rattle.gerg_tables.specs.Filling.{padded}
+use Rattle.gerg_tables.proofs.Padded.{padded-none, padded-all, stored-on}
+use Rattle.gerg_tables.proofs.Put.{length-flat, length-run, length-doubles-at, length-bytes-at, length-critical}
+use Rattle.gerg_tables.proofs.Rows.{length-row}
 
--- a list stored over one of its length is that list
-pub whole : {A : Type 0} (l b : List A) → length b ≡ length l → sets l 0 b ≡ b
-whole l b e =
-    sets-eq b l 0 (omega arith)
-    ∙ ap (λ (r : List _). b ++ r) (drop-of-length-le l (let h : length l ≤ 0 + length b = omega arith in h))
-    ∙ append-nil b
+-- rows of one length
+length-rows : {A : Type 0} (z : A) (numbers : ℕ → ℕ → List A) → ((at n : ℕ) → length (numbers at n) ≡ n) → (f : ℕ → Records) (offset count per n : ℕ)
+    → length (flat (λ i. rowOf z numbers (f i) offset count per) n) ≡ per * count * n
+length-rows z numbers sized f offset count per n =
+    length-flat (λ i. rowOf z numbers (f i) offset count per) (per * count) (λ k. length-row z numbers sized (f k) offset count per) n
 
-module _ (s : List ℕ) (f : ℕ → Records) (offset count per n : ℕ) where
-  pub length-rows : length (flat (λ i. doublesOf s (f i) offset count per) n) ≡ per * count * n
-  length-rows = length-flat (λ i. doublesOf s (f i) offset count per) (per * count) (λ k. length-doublesOf s (f k) offset per 0 count) n
+module _ (s : List ℕ) (from : ℕ) where
+  pub length-ideal : length (ideal s) ≡ 231
+  unfolding ideal
+  length-ideal = length-run (doublesAt s) (length-doubles-at s) _ _ 11 0 21
 
-  pub length-byte-rows : length (flat (λ i. bytesOf s (f i) offset count per) n) ≡ per * count * n
-  length-byte-rows = length-flat (λ i. bytesOf s (f i) offset count per) (per * count) (λ k. length-bytesOf s (f k) offset per 0 count) n
+  pub length-counts : length (counts s) ≡ 42
+  unfolding counts
+  length-counts = length-run (bytesAt s) (length-bytes-at s) _ _ 2 0 21
+
+  pub length-terms : length (termDoubles s from) ≡ 1008
+  unfolding termDoubles
+  length-terms = length-rows +0 (doublesAt s) (length-doubles-at s) (terms s from) _ 24 2 21
+
+  pub length-term-bytes : length (termIntegers s from) ≡ 1008
+  unfolding termIntegers
+  length-term-bytes = length-rows 0 (bytesAt s) (length-bytes-at s) (terms s from) _ 24 2 21
+
+  pub length-pairs : length (pairDoubles s from) ≡ 2205
+  unfolding pairDoubles
+  length-pairs = length-rows +0 (doublesAt s) (length-doubles-at s) (pairs from) _ 21 5 21
+
+  pub length-pair-bytes : length (pairIntegers s from) ≡ 441
+  unfolding pairIntegers
+  length-pair-bytes = length-rows 0 (bytesAt s) (length-bytes-at s) (pairs from) _ 21 1 21
+
+  pub length-functions : (count : ℕ) → length (functionIntegers s from count) ≡ 20
+  unfolding functionIntegers
+  length-functions count = length-row 0 (bytesAt s) (length-bytes-at s) (functions from count) _ 10 2
+
+module _ (s : List ℕ) (functions count from : ℕ) where
+  pub length-departures : length (departureDoubles s functions count from) ≡ 600
+  unfolding departureDoubles
+  length-departures = length-rows +0 (doublesAt s) (length-doubles-at s) (departures s functions count from) _ 12 5 10
+
+  pub length-departure-bytes : length (departureIntegers s functions count from) ≡ 120
+  unfolding departureIntegers
+  length-departure-bytes = length-rows 0 (bytesAt s) (length-bytes-at s) (departures s functions count from) _ 12 1 10
+
+-- the length of two lists one after the other
+joined : {A : Type 0} (a b : List A) {m n : ℕ} → length a ≡ m → length b ≡ n → length (a ++ b) ≡ m + n
+joined a b e g = length-append a b ∙ rw (e, g)
 
 module _ (s : List ℕ) (l : Layout) where
-  abbrev pub critical : List Float
-  critical = doublesOf s components 2 21 2
+  abbrev toIdeal : List Float
+  toIdeal = critical s ++ ideal s
 
-  abbrev pub ideal : List Float
-  ideal = doublesOf s components 20 21 11
+  abbrev toTerms : List Float
+  toTerms = toIdeal ++ termDoubles s (l .terms)
 
-  abbrev pub termDoubles : List Float
-  termDoubles = flat (λ i. doublesOf s (terms s (l .terms) i) 5 24 2) 21
+  abbrev toPairs : List Float
+  toPairs = toTerms ++ pairDoubles s (l .pairs)
 
-  abbrev pub pairDoubles : List Float
-  pairDoubles = flat (λ i. doublesOf s (pairs (l .pairs) i) 3 21 5) 21
+  length-to-ideal : length toIdeal ≡ 273
+  length-to-ideal = joined (critical s) (ideal s) (length-critical s) (length-ideal s 0)
 
-  abbrev pub departureDoubles : List Float
-  departureDoubles = flat (λ m. doublesOf s (departures s (l .functions) (l .count) (l .departures) m) 4 12 5) 10
+  length-to-terms : length toTerms ≡ 1281
+  length-to-terms = joined toIdeal _ length-to-ideal (length-terms s (l .terms))
 
-  pub length-critical : length critical ≡ 42
-  length-critical = length-doublesOf s components 2 2 0 21
+  length-to-pairs : length toPairs ≡ 3486
+  length-to-pairs = joined toTerms _ length-to-terms (length-pairs s (l .pairs))
 
-  pub length-ideal : length ideal ≡ 231
-  length-ideal = length-doublesOf s components 20 11 0 21
-
-  pub length-terms : length termDoubles ≡ 1008
-  length-terms = length-rows s (terms s (l .terms)) 5 24 2 21
-
-  pub length-pairs : length pairDoubles ≡ 2205
-  length-pairs = length-rows s (pairs (l .pairs)) 3 21 5 21
-
-  pub length-departures : length departureDoubles ≡ 600
-  length-departures = length-rows s (departures s (l .functions) (l .count) (l .departures)) 4 12 5 10
-
-  pub doubles-stored : (d : List Float) {o₁ o₂ o₃ o₄ : List Float} → o₁ ≡ sets (sets d 0 critical) 42 ideal → o₂ ≡ sets o₁ 273 termDoubles
-      → o₃ ≡ sets o₂ 1281 pairDoubles → o₄ ≡ sets o₃ 3486 departureDoubles → o₄ ≡ sets d 0 (doubles s l)
+  all-doubles : toPairs ++ departureDoubles s (l .functions) (l .count) (l .departures) ≡ doubles s l
   unfolding doubles
-  doubles-stored d e₁ e₂ e₃ e₄ =
-      sets-on critical _ d 0 42 length-critical refl
-      (sets-on ideal _ _ 42 231 length-ideal e₁
-      (sets-on termDoubles _ _ 273 1008 length-terms e₂ (sets-on pairDoubles departureDoubles _ 1281 2205 length-pairs e₃ e₄)))
+  all-doubles = simp append-assoc
 
-  pub length-doubles : length (doubles s l) ≡ 4086
-  unfolding doubles
-  length-doubles = simp length-append (rw (length-critical, length-ideal, length-terms, length-pairs, length-departures))
+  -- each block by what its call gives
+  pub doubles-stored : {o₀ o₁ o₂ o₃ o₄ : List Float} → o₀ ≡ replicate 4086 +0 → o₁ ≡ sets (sets o₀ 0 (critical s)) 42 (ideal s)
+      → ((a : List Float) → length a ≡ 273 → o₁ ≡ padded 4086 +0 a → o₂ ≡ padded 4086 +0 (a ++ termDoubles s (l .terms)))
+      → ((a : List Float) → length a ≡ 1281 → o₂ ≡ padded 4086 +0 a → o₃ ≡ padded 4086 +0 (a ++ pairDoubles s (l .pairs)))
+      → ((a : List Float) → length a ≡ 3486 → o₃ ≡ padded 4086 +0 a
+      → o₄ ≡ padded 4086 +0 (a ++ departureDoubles s (l .functions) (l .count) (l .departures)))
+      → o₄ ≡ doubles s l
+  doubles-stored {o₀} zeros e₁ e₂ e₃ e₄ =
+      let c = length-critical s in
+      let i = length-ideal s 0 in
+      let first = stored-on 4086 +0 [] (critical s) 0 refl (omega arith) (zeros ∙ padded-none 4086 +0) refl in
+      let second = stored-on 4086 +0 (critical s) (ideal s) 42 c (omega arith) first e₁ in
+      e₄ toPairs length-to-pairs (e₃ toTerms length-to-terms (e₂ toIdeal length-to-ideal second))
+      ∙ padded-all 4086 +0 (toPairs ++ departureDoubles s (l .functions) (l .count) (l .departures))
+      (joined toPairs _ length-to-pairs (length-departures s (l .functions) (l .count) (l .departures)))
+      ∙ all-doubles
 
-  abbrev pub counts : List ℕ
-  counts = bytesOf s components 18 21 2
+  abbrev toTermBytes : List ℕ
+  toTermBytes = counts s ++ termIntegers s (l .terms)
 
-  abbrev pub termBytes : List ℕ
-  termBytes = flat (λ i. bytesOf s (terms s (l .terms) i) 3 24 2) 21
+  abbrev toPairBytes : List ℕ
+  toPairBytes = toTermBytes ++ pairIntegers s (l .pairs)
 
-  abbrev pub pairBytes : List ℕ
-  pairBytes = flat (λ i. bytesOf s (pairs (l .pairs) i) 43 21 1) 21
+  abbrev toFunctions : List ℕ
+  toFunctions = toPairBytes ++ functionIntegers s (l .functions) (l .count)
 
-  abbrev pub functionBytes : List ℕ
-  functionBytes = bytesOf s (functions (l .functions) (l .count)) 2 10 2
+  length-to-term-bytes : length toTermBytes ≡ 1050
+  length-to-term-bytes = joined (counts s) _ (length-counts s 0) (length-term-bytes s (l .terms))
 
-  abbrev pub departureBytes : List ℕ
-  departureBytes = flat (λ m. bytesOf s (departures s (l .functions) (l .count) (l .departures) m) 3 12 1) 10
+  pub length-to-pair-bytes : length toPairBytes ≡ 1491
+  length-to-pair-bytes = joined toTermBytes _ length-to-term-bytes (length-pair-bytes s (l .pairs))
 
-  pub length-counts : length counts ≡ 42
-  length-counts = length-bytesOf s components 18 2 0 21
+  length-to-functions : length toFunctions ≡ 1511
+  length-to-functions = joined toPairBytes _ length-to-pair-bytes (length-functions s (l .functions) (l .count))
 
-  pub length-term-bytes : length termBytes ≡ 1008
-  length-term-bytes = length-byte-rows s (terms s (l .terms)) 3 24 2 21
-
-  pub length-pair-bytes : length pairBytes ≡ 441
-  length-pair-bytes = length-byte-rows s (pairs (l .pairs)) 43 21 1 21
-
-  pub length-functions : length functionBytes ≡ 20
-  length-functions = length-bytesOf s (functions (l .functions) (l .count)) 2 2 0 10
-
-  pub length-departure-bytes : length departureBytes ≡ 120
-  length-departure-bytes = length-byte-rows s (departures s (l .functions) (l .count) (l .departures)) 3 12 1 10
-
-  pub integers-stored : (d : List ℕ) {o₁ o₂ o₃ o₄ o₅ : List ℕ} → o₁ ≡ sets d 0 counts → o₂ ≡ sets o₁ 42 termBytes → o₃ ≡ sets o₂ 1050 pairBytes
-      → o₄ ≡ sets o₃ 1491 functionBytes → o₅ ≡ sets o₄ 1511 departureBytes → o₅ ≡ sets d 0 (integers s l)
+  all-integers : toFunctions ++ departureIntegers s (l .functions) (l .count) (l .departures) ≡ integers s l
   unfolding integers
-  integers-stored d e₁ e₂ e₃ e₄ e₅ =
-      sets-on counts _ d 0 42 length-counts e₁
-      (sets-on termBytes _ _ 42 1008 length-term-bytes e₂
-      (sets-on pairBytes _ _ 1050 441 length-pair-bytes e₃ (sets-on functionBytes departureBytes _ 1491 20 length-functions e₄ e₅)))
+  all-integers = simp append-assoc
 
-  pub length-integers : length (integers s l) ≡ 1631
-  unfolding integers
-  length-integers = simp length-append (rw (length-counts, length-term-bytes, length-pair-bytes, length-functions, length-departure-bytes))
-
-  pub loaded-is : {d : List Float} {n : List ℕ} → d ≡ sets (replicate 4086 +0) 0 (doubles s l) → n ≡ sets (replicate 1631 0) 0 (integers s l)
-      → _≡_ {A = Tables} (record { doubles = d; integers = n }) (loaded s l)
-  unfolding loaded
-  loaded-is e g =
-      rw (
-        e,
-        g,
-        whole (replicate 4086 +0) (doubles s l) (length-doubles ∙ sym (length-replicate 4086 +0)),
-        whole (replicate 1631 0) (integers s l) (length-integers ∙ sym (length-replicate {A = ℕ} 1631 0)),
-      )
-
-  -- the same for lent arrays that held zeros
-  pub stored-is : {d₀ d : List Float} {n₀ n : List ℕ} → d₀ ≡ replicate 4086 +0 → n₀ ≡ replicate 1631 0 → d ≡ sets d₀ 0 (doubles s l)
-      → n ≡ sets n₀ 0 (integers s l) → _≡_ {A = Tables} (record { doubles = d; integers = n }) (loaded s l)
-  stored-is zd zn e g =
-      loaded-is (e ∙ ap (λ (d : List Float). sets d 0 (doubles s l)) zd) (g ∙ ap (λ (n : List ℕ). sets n 0 (integers s l)) zn)
+  pub integers-stored : {o₀ o₁ o₂ o₃ o₄ o₅ : List ℕ} → o₀ ≡ replicate 1631 0 → o₁ ≡ sets o₀ 0 (counts s)
+      → ((a : List ℕ) → length a ≡ 42 → o₁ ≡ padded 1631 0 a → o₂ ≡ padded 1631 0 (a ++ termIntegers s (l .terms)))
+      → ((a : List ℕ) → length a ≡ 1050 → o₂ ≡ padded 1631 0 a → o₃ ≡ padded 1631 0 (a ++ pairIntegers s (l .pairs)))
+      → ((a : List ℕ) → length a ≡ 1491 → o₃ ≡ padded 1631 0 a → o₄ ≡ padded 1631 0 (a ++ functionIntegers s (l .functions) (l .count)))
+      → ((a : List ℕ) → length a ≡ 1511 → o₄ ≡ padded 1631 0 a
+      → o₅ ≡ padded 1631 0 (a ++ departureIntegers s (l .functions) (l .count) (l .departures)))
+      → o₅ ≡ integers s l
+  integers-stored {o₀} zeros e₁ e₂ e₃ e₄ e₅ =
+      let c = length-counts s 0 in
+      let first = stored-on 1631 0 [] (counts s) 0 refl (omega arith) (zeros ∙ padded-none 1631 0) e₁ in
+      e₅ toFunctions length-to-functions
+      (e₄ toPairBytes length-to-pair-bytes (e₃ toTermBytes length-to-term-bytes (e₂ (counts s) c first)))
+      ∙ padded-all 1631 0 (toFunctions ++ departureIntegers s (l .functions) (l .count) (l .departures))
+      (joined toFunctions _ length-to-functions (length-departure-bytes s (l .functions) (l .count) (l .departures)))
+      ∙ all-integers

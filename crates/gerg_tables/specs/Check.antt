@@ -68,8 +68,3 @@ someBadNumber integers count = someFrom (λ i. someFrom (badNumber integers coun
 unfoldable pub faultOf : List Float → List ℕ → ℕ → ℕ
 faultOf doubles integers count =
     orElse (first (numberFault doubles) 5 0) (orElse (first (componentFault doubles) 21 0) (cond (someBadNumber integers count) 8 0))
-
--- whether the first n numbers of the pairs are finite, those of the places i > j too, which hold 0
-unfoldable pub finitePairs : List Float → ℕ → Bool
-finitePairs doubles zero = true
-finitePairs doubles (suc n) = finitePairs doubles n && finite (getD doubles (1281 + n) nan)

@@ -1,7 +1,7 @@
 -- What the coefficient file holds, which files are accepted, and the tables of an accepted one.
 pub mod Tables
-pub mod Bytes
-pub mod File
 pub mod Load
+pub mod Filling
 pub mod Check
 pub mod Answer
+pub mod TableFile

@@ -1,6 +1,9 @@
 // Row 2: the check of the tables. Components are counted from 0.
 ghost use mathlib.Core.Path.{_≡_};
-ghost use Prim.Native.Nat.{_+_, _-_, _*_, _≤_, _<_};
+ghost use mathlib.Core.Bool.{true};
+ghost use Prim.Native.Nat.{ℕ, _+_, _-_, _*_, _≤_, _<_};
+ghost use lib.Ieee.{nan};
+ghost use lib.ListN.{getD};
 ghost use lib.Ieee.Scale as Scale;
 ghost use Rattle.gerg_tables.specs.Check as Check;
 ghost use Rattle.gerg_tables.specs.Check.{someFrom};
@@ -54,24 +57,12 @@ fn some_nonfinite(doubles: &[f64; 4086], q: usize) -> bool
     false
 }
 
-// Whether the numbers of all pairs are finite, in one pass without a branch.
-fn finite_pairs(doubles: &[f64; 4086]) -> bool
-    ensures { λ r. ⌜ r ≡ Check.finitePairs (now (doubles .entry)) 2205 ⌝ }
-{
-    let mut all = true;
-    let mut k: usize = 0;
-    while k < 2205 {
-        all = all & finite(doubles[1281 + k]);
-        k += 1;
-    }
-    all
-}
-
-// 1 to 5 for the first q at which a number is not finite, 0 where all are finite.
-fn first_nonfinite(doubles: &[f64; 4086]) -> u8
+// 1 to 5 for the first q at which a number is not finite, 0 where all are finite, as they are known to be where `finite` says so.
+fn first_nonfinite(doubles: &[f64; 4086], finite: bool) -> u8
+    requires { ⌜ (finite ≡ true → Check.first (Check.numberFault (now doubles)) 5 0 ≡ 0) ⌝ }
     ensures { λ r. ⌜ r ≡ Check.first (Check.numberFault (now (doubles .entry))) 5 0 ⌝ }
 {
-    if finite_pairs(doubles) {
+    if finite {
         return 0;
     }
     let mut q: usize = 0;
@@ -191,11 +182,17 @@ fn some_bad_number(integers: &[u8; 1631], count: usize) -> bool
     false
 }
 
-// The first fault of the tables of a file with `count` departure functions, 1 to 8, and 0 where there is none.
-pub fn fault<'a>(doubles: &'a [f64; 4086], integers: &'a [u8; 1631], count: usize) -> u8
+// The first fault of the tables of a file with `count` departure functions, 1 to 8, and 0 where there is none. `finite` tells that the numbers of the pairs are.
+pub fn fault<'a>(
+    doubles: &'a [f64; 4086],
+    integers: &'a [u8; 1631],
+    count: usize,
+    finite: bool,
+) -> u8
+    requires { ⌜ (finite ≡ true → Check.first (Check.numberFault (now doubles)) 5 0 ≡ 0) ⌝ }
     ensures { λ r. ⌜ r ≡ Check.faultOf (now (doubles .entry)) (now (integers .entry)) count ⌝ }
 {
-    let n = first_nonfinite(doubles);
+    let n = first_nonfinite(doubles, finite);
     if 0 < n {
         return n;
     }

@@ -1,16 +1,17 @@
 // The coefficient file and its tables.
 ghost use mathlib.Core.Path.{_≡_};
-ghost use mathlib.Core.List.{[], _∷_};
 ghost use lib.ListN.{replicate};
 ghost use Rattle.numerics.specs.Double.{+0};
 ghost use Rattle.gerg_tables.specs.Answer as Answers;
+ghost use Rattle.gerg_tables.specs.TableFile.{tableFileOf, tableFile};
 
-mod bytes;
 mod check;
-mod file;
 mod load;
 pub mod named;
-mod records;
+mod store;
+
+use gerg_file::File;
+use gerg_file::read_layout;
 
 // The tables of a coefficient file as two flat arrays.
 pub struct Tables {
@@ -39,7 +40,7 @@ pub struct TableFile {
 impl Answer {
     // Document 01's number, 0 for an accepted file.
     pub fn number(self) -> u64
-        ensures { λ r. ⌜ r ≡ Answers.number self ⌝ }
+        ensures { λ r. ⌜ r ≡ Answers.numberOf self ⌝ }
     {
         match self {
             Answer::Accepted(_) => 0,
@@ -50,7 +51,7 @@ impl Answer {
 
     // Document 01's value, the length for an accepted file.
     pub fn value(self) -> u64
-        ensures { λ r. ⌜ r ≡ Answers.value self ⌝ }
+        ensures { λ r. ⌜ r ≡ Answers.valueOf self ⌝ }
     {
         match self {
             Answer::Accepted(length) => length as u64,
@@ -72,13 +73,13 @@ fn judge(fault: u8, length: usize) -> Answer
 // The bytes of a coefficient file, checked and read into lent arrays of zeros, so that tables of 34 kB are not copied.
 pub fn read_tables_into(file: &[u8], doubles: &mut [f64; 4086], integers: &mut [u8; 1631]) -> Answer
     requires { ⌜ (now doubles ≡ replicate 4086 +0) × (now integers ≡ replicate 1631 0) ⌝ }
-    ensures { λ r. ⌜ Answers.tableFile r (now (doubles .exit)) (now (integers .exit)) ≡ Answers.tableFileOf (now (file .entry)) ⌝ }
+    ensures { λ r. ⌜ tableFile r (now (doubles .exit)) (now (integers .exit)) ≡ tableFileOf (now (file .entry)) ⌝ }
 {
-    match file::read_layout(file) {
-        file::File::Malformed(at) => Answer::Refused(at),
-        file::File::WellFormed(layout) => {
-            load::put_tables(file, layout, doubles, integers);
-            let fault = check::fault(doubles, integers, layout.count);
+    match read_layout(file) {
+        File::Malformed(at) => Answer::Refused(at),
+        File::WellFormed(layout) => {
+            let finite = load::put_tables(file, layout, doubles, integers);
+            let fault = check::fault(doubles, integers, layout.count, finite);
             judge(fault, layout.length)
         }
     }
@@ -86,7 +87,7 @@ pub fn read_tables_into(file: &[u8], doubles: &mut [f64; 4086], integers: &mut [
 
 // The same with the tables in the answer.
 pub fn read_tables(file: &[u8]) -> TableFile
-    ensures { λ r. ⌜ r ≡ Answers.tableFileOf (now (file .entry)) ⌝ }
+    ensures { λ r. ⌜ r ≡ tableFileOf (now (file .entry)) ⌝ }
 {
     let mut doubles = [0.0; 4086];
     let mut integers = [0u8; 1631];
@@ -95,15 +96,15 @@ pub fn read_tables(file: &[u8]) -> TableFile
     TableFile { answer, tables }
 }
 
-// The answer's number and value, for callers in C.
+// The answer's number and value as one number, for callers in C.
 #[no_mangle]
-pub extern "C" fn gerg_tables_check(file: &[u8], out: &mut [u64; 2])
-    ensures { λ _. ⌜ now (out .exit) ≡ Answers.number (Answers.answerOf (now (file .entry))) ∷ Answers.value (Answers.answerOf (now (file .entry))) ∷ [] ⌝ }
+pub extern "C" fn gerg_tables_check(file: &[u8]) -> u64
+    ensures { λ r. ⌜ r ≡ Answers.codeOf (Answers.answerOf (now (file .entry))) ⌝ }
 {
     let mut doubles = [0.0; 4086];
     let mut integers = [0u8; 1631];
     let answer = read_tables_into(file, &mut doubles, &mut integers);
     let number = answer.number();
     let value = answer.value();
-    *out = [number, value];
+    number * 4294967296 + value
 }

@@ -1,7 +1,7 @@
 -- The power series at -a: with `even` and `odd` the sums of the terms of even and of odd degree at a, even - odd is the partial sum at -a, and it is 1 / e ^ a up to the tail's bound.
 -- The coefficients of (even - odd) * (even + odd) are 0 from the first on (`level`), by the rule of a product's derivative. So
--- 1 + odd n * S l ≤ even N * S N and even n * S l ≤ 1 + odd N * S N for N = l + n; in the limit 1 ≤ q * e ^ a for q ≥ even n - odd n + T n (`reciprocal-above`),
--- and q * e ^ a ≤ 1 for q ≤ even n - odd n - T n (`reciprocal-below`). Assumes nothing.
+-- 1 + odd n * S l ≤ even N * S N and even n * S l ≤ 1 + odd N * S N for N = l + n; in the limit 1 ≤ q * e ^ a for q ≥ even n - odd n + cut n (`reciprocal-above`),
+-- and q * e ^ a ≤ 1 for q ≤ even n - odd n - cut n (`reciprocal-below`). Assumes nothing.
 use mathlib.Core.Path.{_≡_, refl, sym, ap, ap₂, _∙_, subst}
 use Prim.Native.Nat.{ℕ, zero, suc, _+_, _-_, _*_, _^_, _≤_, _<_}
 use native.Mathlib.Nat.{le-refl, le-trans, le-of-suc-le, mul-pos, zero-lt-suc, mul-one, mul-le-mul-right, pow-suc, pow-zero, sub-self, sub-zero, add-comm, add-sub-cancel, add-sub-cancel-left, le-add-left, le-add-right, eq-of-mul-eq-mul-left}
@@ -11,7 +11,7 @@ use Rattle.numerics.specs.Frac.{Frac, _⊑_, _⊞_, _⊠_, nat, ⊑-refl
 use Rattle.numerics.specs.Conv.{sum, conv, D, conv-cong, conv-scale, conv-scale', leibniz, triangle-in-square, box-in-triangle}
 use Rattle.numerics.specs.Series.{sumTop, sumBot, sumBot-pos, S, Above, S-mono, S-below-U}
 use Rattle.numerics.specs.Law.{rise, term, one-more, term-rule, rise-split, sum-terms, whole, all, mono-⊠}
-use Rattle.numerics.specs.Limit.{T, Far, far-more, tail-anti, limit}
+use Rattle.numerics.specs.Limit.{cut, Far, far-more, tail-anti, limit}
 use Rattle.numerics.specs.Exponential.{powers, sums}
 
 -- ---- the powers of -a by their signs, and the sums of each kind
@@ -184,7 +184,7 @@ both-mono m n x h =
     le-ind (λ k. (even m x ⊑ even k x) × (odd m x ⊑ odd k x)) (⊑-refl (even m x), ⊑-refl (odd m x))
     (λ k _ ih. (⊑-trans (even m x) (even k x) (even (suc k) x) (ih .0) (both-grow k x .0), ⊑-trans (odd m x) (odd k x) (odd (suc k) x) (ih .1) (both-grow k x .1))) n h
 
-both-tail : (n m : ℕ) (x : Frac) → Far n x → n ≤ m → (even m x ⊑ even n x ⊞ T n x) × (odd m x ⊑ odd n x ⊞ T n x)
+both-tail : (n m : ℕ) (x : Frac) → Far n x → n ≤ m → (even m x ⊑ even n x ⊞ cut n x) × (odd m x ⊑ odd n x ⊞ cut n x)
 unfolding sumBot
 both-tail n m x h l =
     let a = x .top in
@@ -203,7 +203,7 @@ both-tail n m x h l =
     swap eM oM e o B k t M h = omega arith
 
 -- ---- the limits
-S-tail : (n m : ℕ) (x : Frac) → Far n x → S m x ⊑ S n x ⊞ T n x
+S-tail : (n m : ℕ) (x : Frac) → Far n x → S m x ⊑ S n x ⊞ cut n x
 unfolding sumBot
 S-tail n m x h = wide (sumTop m (x .top) (x .bot)) (sumBot m (x .bot)) (sumTop n (x .top) (x .bot)) (sumBot n (x .bot)) (x .bot * suc n) (2 * x .top ^ suc n) (S-below-U n m x h)
   where
@@ -223,43 +223,43 @@ assoc : (p q r : Frac) → p ⊞ (q ⊞ r) ⊑ p ⊞ q ⊞ r
 assoc p q r = omega arith
 
 -- 1 ≤ q * e ^ a
-pub reciprocal-above : (a q B : Frac) (n : ℕ) → Far n a → even n a ⊞ T n a ⊑ q ⊞ odd n a → Above a B → one ⊑ q ⊠ B
+pub reciprocal-above : (a q B : Frac) (n : ℕ) → Far n a → even n a ⊞ cut n a ⊑ q ⊞ odd n a → Above a B → one ⊑ q ⊠ B
 reciprocal-above a q B n h k A = limit a one (q ⊠ B) (odd n a) each
   where
-    each : (l : ℕ) → Far l a → one ⊑ q ⊠ B ⊞ odd n a ⊠ T l a
+    each : (l : ℕ) → Far l a → one ⊑ q ⊠ B ⊞ odd n a ⊠ cut l a
     each l f =
         let N = l + n in
         let o = odd n a in
         let s = S l a in
         let t = S N a in
-        let x : even N a ⊑ q ⊞ o = ⊑-trans (even N a) (even n a ⊞ T n a) (q ⊞ o) (both-tail n N a h (le-add-left n l) .0) k in
+        let x : even N a ⊑ q ⊞ o = ⊑-trans (even N a) (even n a ⊞ cut n a) (q ⊞ o) (both-tail n N a h (le-add-left n l) .0) k in
         let y : one ⊞ o ⊠ s ⊑ (q ⊞ o) ⊠ t = ⊑-trans (one ⊞ o ⊠ s) (even N a ⊠ t) ((q ⊞ o) ⊠ t) (odd-in-even l n a) (mono-⊠ (even N a) (q ⊞ o) t t x (⊑-refl t)) in
-        let z : q ⊠ t ⊞ o ⊠ t ⊑ q ⊠ B ⊞ o ⊠ (s ⊞ T l a) = add-mono (q ⊠ t) (q ⊠ B) (o ⊠ t) (o ⊠ (s ⊞ T l a)) (mono-⊠ q q t B (⊑-refl q) (A N)) (mono-⊠ o o t (s ⊞ T l a) (⊑-refl o) (S-tail l N a f)) in
-        let w : one ⊞ o ⊠ s ⊑ q ⊠ B ⊞ o ⊠ T l a ⊞ o ⊠ s =
-        ⊑-trans (one ⊞ o ⊠ s) ((q ⊞ o) ⊠ t) (q ⊠ B ⊞ o ⊠ T l a ⊞ o ⊠ s) y
-        (⊑-trans ((q ⊞ o) ⊠ t) (q ⊠ t ⊞ o ⊠ t) (q ⊠ B ⊞ o ⊠ T l a ⊞ o ⊠ s) (spread q o t)
-        (⊑-trans (q ⊠ t ⊞ o ⊠ t) (q ⊠ B ⊞ o ⊠ (s ⊞ T l a)) (q ⊠ B ⊞ o ⊠ T l a ⊞ o ⊠ s) z (gather (q ⊠ B) o s (T l a)))) in
-        add-cancel one (q ⊠ B ⊞ o ⊠ T l a) (o ⊠ s) w
+        let z : q ⊠ t ⊞ o ⊠ t ⊑ q ⊠ B ⊞ o ⊠ (s ⊞ cut l a) = add-mono (q ⊠ t) (q ⊠ B) (o ⊠ t) (o ⊠ (s ⊞ cut l a)) (mono-⊠ q q t B (⊑-refl q) (A N)) (mono-⊠ o o t (s ⊞ cut l a) (⊑-refl o) (S-tail l N a f)) in
+        let w : one ⊞ o ⊠ s ⊑ q ⊠ B ⊞ o ⊠ cut l a ⊞ o ⊠ s =
+        ⊑-trans (one ⊞ o ⊠ s) ((q ⊞ o) ⊠ t) (q ⊠ B ⊞ o ⊠ cut l a ⊞ o ⊠ s) y
+        (⊑-trans ((q ⊞ o) ⊠ t) (q ⊠ t ⊞ o ⊠ t) (q ⊠ B ⊞ o ⊠ cut l a ⊞ o ⊠ s) (spread q o t)
+        (⊑-trans (q ⊠ t ⊞ o ⊠ t) (q ⊠ B ⊞ o ⊠ (s ⊞ cut l a)) (q ⊠ B ⊞ o ⊠ cut l a ⊞ o ⊠ s) z (gather (q ⊠ B) o s (cut l a)))) in
+        add-cancel one (q ⊠ B ⊞ o ⊠ cut l a) (o ⊠ s) w
 
 -- q * e ^ a ≤ 1
-pub reciprocal-below : (a q : Frac) (n : ℕ) → Far n a → q ⊞ odd n a ⊞ T n a ⊑ even n a → (m : ℕ) → q ⊠ S m a ⊑ one
-reciprocal-below a q n h k m = limit a (q ⊠ S m a) one (odd n a ⊞ T n a) each
+pub reciprocal-below : (a q : Frac) (n : ℕ) → Far n a → q ⊞ odd n a ⊞ cut n a ⊑ even n a → (m : ℕ) → q ⊠ S m a ⊑ one
+reciprocal-below a q n h k m = limit a (q ⊠ S m a) one (odd n a ⊞ cut n a) each
   where
     -- for every l from m on; below that m itself serves
-    each : (l : ℕ) → Far l a → q ⊠ S m a ⊑ one ⊞ (odd n a ⊞ T n a) ⊠ T l a
+    each : (l : ℕ) → Far l a → q ⊠ S m a ⊑ one ⊞ (odd n a ⊞ cut n a) ⊠ cut l a
     each l f =
-        let o = odd n a ⊞ T n a in
+        let o = odd n a ⊞ cut n a in
         let p = l + m in
         let g : Far p a = far-more l m a f in
         let N = p + n in
         let s = S p a in
         let t = S N a in
-        let x : (q ⊞ o) ⊠ s ⊑ one ⊞ odd N a ⊠ t = ⊑-trans ((q ⊞ o) ⊠ s) (even n a ⊠ s) (one ⊞ odd N a ⊠ t) (mono-⊠ (q ⊞ o) (even n a) s s (⊑-trans (q ⊞ o) (q ⊞ odd n a ⊞ T n a) (even n a) (assoc q (odd n a) (T n a)) k) (⊑-refl s)) (even-in-odd p n a) in
-        let y : odd N a ⊠ t ⊑ o ⊠ (s ⊞ T p a) = mono-⊠ (odd N a) o t (s ⊞ T p a) (both-tail n N a h (le-add-left n p) .1) (S-tail p N a g) in
-        let z : q ⊠ s ⊞ o ⊠ s ⊑ one ⊞ o ⊠ T p a ⊞ o ⊠ s =
-        ⊑-trans (q ⊠ s ⊞ o ⊠ s) ((q ⊞ o) ⊠ s) (one ⊞ o ⊠ T p a ⊞ o ⊠ s) (join q o s)
-        (⊑-trans ((q ⊞ o) ⊠ s) (one ⊞ odd N a ⊠ t) (one ⊞ o ⊠ T p a ⊞ o ⊠ s) x
-        (⊑-trans (one ⊞ odd N a ⊠ t) (one ⊞ o ⊠ (s ⊞ T p a)) (one ⊞ o ⊠ T p a ⊞ o ⊠ s) (add-mono one one (odd N a ⊠ t) (o ⊠ (s ⊞ T p a)) (⊑-refl one) y) (gather one o s (T p a)))) in
-        let w : q ⊠ s ⊑ one ⊞ o ⊠ T p a = add-cancel (q ⊠ s) (one ⊞ o ⊠ T p a) (o ⊠ s) z in
-        ⊑-trans (q ⊠ S m a) (q ⊠ s) (one ⊞ o ⊠ T l a) (mono-⊠ q q (S m a) s (⊑-refl q) (S-mono m p a (le-add-left m l)))
-        (⊑-trans (q ⊠ s) (one ⊞ o ⊠ T p a) (one ⊞ o ⊠ T l a) w (add-mono one one (o ⊠ T p a) (o ⊠ T l a) (⊑-refl one) (mono-⊠ o o (T p a) (T l a) (⊑-refl o) (tail-anti l m a f))))
+        let x : (q ⊞ o) ⊠ s ⊑ one ⊞ odd N a ⊠ t = ⊑-trans ((q ⊞ o) ⊠ s) (even n a ⊠ s) (one ⊞ odd N a ⊠ t) (mono-⊠ (q ⊞ o) (even n a) s s (⊑-trans (q ⊞ o) (q ⊞ odd n a ⊞ cut n a) (even n a) (assoc q (odd n a) (cut n a)) k) (⊑-refl s)) (even-in-odd p n a) in
+        let y : odd N a ⊠ t ⊑ o ⊠ (s ⊞ cut p a) = mono-⊠ (odd N a) o t (s ⊞ cut p a) (both-tail n N a h (le-add-left n p) .1) (S-tail p N a g) in
+        let z : q ⊠ s ⊞ o ⊠ s ⊑ one ⊞ o ⊠ cut p a ⊞ o ⊠ s =
+        ⊑-trans (q ⊠ s ⊞ o ⊠ s) ((q ⊞ o) ⊠ s) (one ⊞ o ⊠ cut p a ⊞ o ⊠ s) (join q o s)
+        (⊑-trans ((q ⊞ o) ⊠ s) (one ⊞ odd N a ⊠ t) (one ⊞ o ⊠ cut p a ⊞ o ⊠ s) x
+        (⊑-trans (one ⊞ odd N a ⊠ t) (one ⊞ o ⊠ (s ⊞ cut p a)) (one ⊞ o ⊠ cut p a ⊞ o ⊠ s) (add-mono one one (odd N a ⊠ t) (o ⊠ (s ⊞ cut p a)) (⊑-refl one) y) (gather one o s (cut p a)))) in
+        let w : q ⊠ s ⊑ one ⊞ o ⊠ cut p a = add-cancel (q ⊠ s) (one ⊞ o ⊠ cut p a) (o ⊠ s) z in
+        ⊑-trans (q ⊠ S m a) (q ⊠ s) (one ⊞ o ⊠ cut l a) (mono-⊠ q q (S m a) s (⊑-refl q) (S-mono m p a (le-add-left m l)))
+        (⊑-trans (q ⊠ s) (one ⊞ o ⊠ cut p a) (one ⊞ o ⊠ cut l a) w (add-mono one one (o ⊠ cut p a) (o ⊠ cut l a) (⊑-refl one) (mono-⊠ o o (cut p a) (cut l a) (⊑-refl o) (tail-anti l m a f))))

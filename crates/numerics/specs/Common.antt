@@ -24,7 +24,7 @@ on-add Q p q n m a b = omega (arith, ap (λ (z : ℕ). z * q .bot) a, ap (λ (z 
 pub on-times : (Q k : ℕ) (p : Frac) (n : ℕ) → On Q p n → On Q (times k p) (k * n)
 on-times Q k p n a = omega (arith, ap (λ (z : ℕ). k * z) a)
 
-sub-mul : (x y q : ℕ) → (x - y) * q ≡ x * q - y * q
+pub sub-mul : (x y q : ℕ) → (x - y) * q ≡ x * q - y * q
 sub-mul x y q = mul-comm (x - y) q ∙ mul-sub q x y ∙ ap₂ _-_ (mul-comm q x) (mul-comm q y)
 
 pub on-less : (Q : ℕ) (p q : Frac) (n m : ℕ) → On Q p n → On Q q m → On Q (less p q) (n - m)

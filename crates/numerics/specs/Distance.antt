@@ -19,7 +19,7 @@ use Rattle.numerics.specs.Series.{sumTop, sumBot, S, Above, Below, S-arg
 use Rattle.numerics.specs.Law.{mono-⊠, zero-sum}
 use Rattle.numerics.specs.Exp.{LE, inv}
 use Rattle.numerics.specs.Exponential.{Signed, plus-of, minus-of, raised, lowered, Within, LnWithin}
-use Rattle.numerics.specs.ExpBoundLaws.{Low, most-arg, least-arg}
+use Rattle.numerics.specs.ExpBoundSums.{Low, most-arg, least-arg}
 use Rattle.numerics.specs.ExpBounds.{positives, negatives, AtMost, AtLeast, at-most, at-least, least-most}
 
 -- ---- e ^ x

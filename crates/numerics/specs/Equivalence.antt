@@ -18,7 +18,7 @@ use Rattle.numerics.specs.Exp.{inv}
 use Rattle.numerics.specs.Exponential.{Signed, plus-of, minus-of, size, AboveExp, BelowExp}
 use Rattle.numerics.specs.ExpBounds.{AtMost, AtLeast, at-most, at-least, least-most, of, up-below}
 use Rattle.numerics.specs.ExpBoundLaws.{above-of-most, below-of-least, least-some, exp-zero}
-use Rattle.numerics.specs.ExponentialLaws.{room-above, exp-above-more, exp-below-less, one-below}
+use Rattle.numerics.specs.ExponentialRoom.{room-above, exp-above-more, exp-below-less, one-below}
 use Rattle.numerics.specs.Distance.{zero-one, most-plus, least-plus, most-minus, least-minus}
 
 -- ---- an order that holds up to every larger or smaller fraction holds

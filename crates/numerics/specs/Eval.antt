@@ -11,7 +11,8 @@ use Rattle.numerics.specs.Frac.{Frac, nat, ⊑-refl}
 use Rattle.numerics.specs.Series.{sumTop, sumBot, S, U, Above, Below, above-by, below-by}
 use Rattle.numerics.specs.Limit.{Far}
 use Rattle.numerics.specs.Exponential.{Signed, plus-of, minus-of, raised, lowered, powers, sums, Enough, AboveExp, BelowExp, LnWithin}
-use Rattle.numerics.specs.ExpBoundLaws.{G, L, t, on, above-plain, below-plain, monus, most-arg, least-arg}
+use Rattle.numerics.specs.ExpBoundLaws.{G, L, t, on, above-plain, below-plain, monus}
+use Rattle.numerics.specs.ExpBoundSums.{most-arg, least-arg}
 use Rattle.numerics.specs.Distance.{most-plus, least-plus, ln-within}
 
 -- ---- the evaluator
@@ -63,8 +64,8 @@ unfolding sumTop sumBot
 e-ln2-low = (below-by 32 ln2-low (record { top = 2 ^ 111 - 2; bot = 2 ^ 110; good = pow-pos 110 }) (lit≤ tt), above-by 32 ln2-low (record { top = 2 ^ 111 - 1; bot = 2 ^ 110; good = pow-pos 110 }) (lit≤ tt) (lit≤ tt))
 
 -- ---- the binary64 value nearest to ln 2
-abbrev pub ln2 : Frac
-ln2 = record { top = 6243314768165359; bot = 2 ^ 53; good = pow-pos 53 }
+abbrev pub ln2-double : Frac
+ln2-double = record { top = 6243314768165359; bot = 2 ^ 53; good = pow-pos 53 }
 
 abbrev pub two-hi : Frac
 two-hi = record { top = 2535301200456458744198584700160; bot = 2 ^ 100; good = pow-pos 100 }
@@ -72,10 +73,10 @@ two-hi = record { top = 2535301200456458744198584700160; bot = 2 ^ 100; good = p
 abbrev pub two-lo : Frac
 two-lo = record { top = 2535301200456458744198584700159; bot = 2 ^ 100; good = pow-pos 100 }
 
-pub e-ln2-above : Above ln2 two-hi
+pub e-ln2-above : Above ln2-double two-hi
 unfolding sumTop sumBot
-e-ln2-above = above-by 30 ln2 two-hi (lit≤ tt) (lit≤ tt)
+e-ln2-above = above-by 30 ln2-double two-hi (lit≤ tt) (lit≤ tt)
 
-pub e-ln2-below : Below ln2 two-lo
+pub e-ln2-below : Below ln2-double two-lo
 unfolding sumTop sumBot
-e-ln2-below = below-by 30 ln2 two-lo (lit≤ tt)
+e-ln2-below = below-by 30 ln2-double two-lo (lit≤ tt)

@@ -6,12 +6,11 @@ use Prim.Native.Nat.{ℕ, zero, suc, _+_, _-_, _*_, _^_, _≤_, _<_}
 use native.Mathlib.Nat.{le-of-lt, lt-of-lt-of-le, mul-pos, mul-le-mul-right, mul-le-mul-left, le-of-mul-le-mul-right, pow-suc, pow-zero, add-sub-of-le}
 use native.Mathlib.Omega.{arith}
 use mathlib.Core.Bool.{Bool, true, false, not}
-use lib.Dec.{leb, leb→le, nleb→lt}
-use lib.Dec as dec
+use lib.Dec.{T, leb, leb→le, nleb→lt}
 use Rattle.numerics.specs.Frac.{Frac, _⊑_, _⊞_, _⊠_, nat, ⊑-refl, ⊑-trans}
 use Rattle.numerics.specs.Series.{sumTop, sumBot, sumBot-pos, S, U, Above, S-arg, above-by, above-arg}
 use Rattle.numerics.specs.Law.{mono-⊠, law-lower, law-upper, above-mul, over, above-div}
-use Rattle.numerics.specs.Limit.{T, Far, limit}
+use Rattle.numerics.specs.Limit.{cut, Far, limit}
 use Rattle.numerics.specs.Alternating.{even, odd, reciprocal-above, reciprocal-below}
 use Rattle.numerics.specs.Exponential.{Signed, powers, sums, gain, loss, tail, AboveExp, BelowExp}
 use Rattle.numerics.specs.Tail.{S-one}
@@ -84,7 +83,7 @@ module _ (m d b : ℕ) (B : 0 < b) (q : Frac) where
       plain : (g l s B k t qt qb : ℕ) → 0 < B → 0 < k → g ≡ l + s → ((qt * B + l * qb) * (B * k) + t * (qb * B)) * B ≤ g * (qb * B * (B * k)) → qt * B ≤ s * qb
       plain g l s B k t qt qb P K e h = le-of-mul-le-mul-right {k = B * B * k} (omega (arith, h, ap (λ (z : ℕ). z * (qb * B * (B * k))) e)) (mul-pos (mul-pos P P) K)
 
-  down-above : (n : ℕ) → gain n (down m d b B) ⊞ tail n (down m d b B) ⊑ q ⊞ loss n (down m d b B) → even n (frac d b B) ⊞ T n (frac d b B) ⊑ q ⊞ odd n (frac d b B)
+  down-above : (n : ℕ) → gain n (down m d b B) ⊞ tail n (down m d b B) ⊑ q ⊞ loss n (down m d b B) → even n (frac d b B) ⊞ cut n (frac d b B) ⊑ q ⊞ odd n (frac d b B)
   unfolding sumBot
   down-above n h =
       plain (sums n m (m + d) b .0) (sums n m (m + d) b .1) (sums n 0 d b .0) (sums n 0 d b .1) (sumBot n b) (b * suc n) (2 * d ^ suc n) (q .top) (q .bot) (sums-down n m d b)
@@ -93,7 +92,7 @@ module _ (m d b : ℕ) (B : 0 < b) (q : Frac) where
       plain : (g l e o B k t qt qb : ℕ) → g + o ≡ l + e → (g * (B * k) + t * B) * (qb * B) ≤ (qt * B + l * qb) * (B * (B * k)) → (e * (B * k) + t * B) * (qb * B) ≤ (qt * B + o * qb) * (B * (B * k))
       plain g l e o B k t qt qb s h = omega (arith, h, ap (λ (z : ℕ). z * (B * B * k * qb)) s)
 
-  down-below : (n : ℕ) → q ⊞ loss n (down m d b B) ⊞ tail n (down m d b B) ⊑ gain n (down m d b B) → q ⊞ odd n (frac d b B) ⊞ T n (frac d b B) ⊑ even n (frac d b B)
+  down-below : (n : ℕ) → q ⊞ loss n (down m d b B) ⊞ tail n (down m d b B) ⊑ gain n (down m d b B) → q ⊞ odd n (frac d b B) ⊞ cut n (frac d b B) ⊑ even n (frac d b B)
   unfolding sumBot
   down-below n h =
       plain (sums n m (m + d) b .0) (sums n m (m + d) b .1) (sums n 0 d b .0) (sums n 0 d b .1) (sumBot n b) (b * suc n) (2 * d ^ suc n) (q .top) (q .bot) (sums-down n m d b)
@@ -143,7 +142,7 @@ module _ (m d b : ℕ) (B : 0 < b) (q : Frac) where
 pub by-sign : (P : ℕ → ℕ → Type 0) → ((m d : ℕ) → P (m + d) m) → ((p d : ℕ) → P p (p + d)) → (p m : ℕ) → P p m
 by-sign P f g p m = go (leb m p) (leb→le m p) (nleb→lt m p)
   where
-    go : (t : Bool) → (dec.T t → m ≤ p) → (dec.T (not t) → p < m) → P p m
+    go : (t : Bool) → (T t → m ≤ p) → (T (not t) → p < m) → P p m
     go true h k = subst (λ (z : ℕ). P z m) (add-sub-of-le (h tt)) (f m (p - m))
     go false h k = subst (λ (z : ℕ). P p z) (add-sub-of-le (le-of-lt (k tt))) (g p (m - p))
 
@@ -166,7 +165,7 @@ cancel-exp v p q h = limit v p q q each
     clear pt pb qt qb s B k t P l h =
         le-of-mul-le-mul-right {k = s} (omega (arith, mul-le-mul-right (qb) h, mul-le-mul-left (qt * t * pb * qb) l)) (lt-of-lt-of-le P l)
 
-    each : (l : ℕ) → Far l v → p ⊑ q ⊞ q ⊠ T l v
+    each : (l : ℕ) → Far l v → p ⊑ q ⊞ q ⊠ cut l v
     each l f = unfold sumBot in clear (p .top) (p .bot) (q .top) (q .bot) (sumTop l (v .top) (v .bot)) (sumBot l (v .bot)) (v .bot * suc l) (2 * v .top ^ suc l) (sumBot-pos l (v .bot) (v .good)) (S-one l v) (h (U l v) (above-by l v (U l v) f (⊑-refl (U l v))) l)
 
 -- l ≤ e ^ x and e ^ x ≤ h

@@ -5,10 +5,8 @@ use mathlib.Core.Bool.{true, false}
 use mathlib.Core.Logic.{_⊎_}
 use lib.Ieee.{Float, nan, inf, fin}
 use Prim.Native.Nat.{ℕ, zero, suc, _+_, _-_, _*_, _^_, _≤_, _<_}
-use native.Mathlib.Nat.{mul-pos}
-use Rattle.numerics.specs.Frac.{Frac, _⊑_, _⊞_, _⊠_, nat}
-use Rattle.numerics.specs.Round.{val}
-use Rattle.numerics.specs.Series.{sumBot, sumBot-pos}
+use native.Mathlib.Nat.{le-refl, mul-pos, zero-lt-suc}
+use Rattle.numerics.specs.Fraction.{Frac, _⊑_, _⊞_, _⊠_, nat, val}
 
 -- a fraction of either sign: (plus - minus) / bot
 pub record Signed : Type 0 where
@@ -39,7 +37,17 @@ unfoldable pub powers : ℕ → ℕ → ℕ → ℕ × ℕ
 powers zero p m = (1, 0)
 powers (suc k) p m = (powers k p m .0 * p + powers k p m .1 * m, powers k p m .0 * m + powers k p m .1 * p)
 
--- 1 + x + x ^ 2 / 2! + .. + x ^ n / n! for x = (p - m) / b, as a difference over sumBot n b = b ^ n * n!
+-- b ^ n * n!
+unfoldable pub sumBot : ℕ → ℕ → ℕ
+sumBot zero b = 1
+sumBot (suc n) b = sumBot n b * (b * suc n)
+
+pub sumBot-pos : (n b : ℕ) → 0 < b → 0 < sumBot n b
+unfolding sumBot
+sumBot-pos zero b B = le-refl 1
+sumBot-pos (suc n) b B = mul-pos (sumBot-pos n b B) (mul-pos B (zero-lt-suc n))
+
+-- 1 + x + x ^ 2 / 2! + .. + x ^ n / n! for x = (p - m) / b, as a difference over sumBot n b
 unfoldable pub sums : ℕ → ℕ → ℕ → ℕ → ℕ × ℕ
 sums zero p m b = (1, 0)
 sums (suc n) p m b = (sums n p m b .0 * (b * suc n) + powers (suc n) p m .0, sums n p m b .1 * (b * suc n) + powers (suc n) p m .1)

@@ -78,7 +78,7 @@ Coefs k [] = Unit {0}
 Coefs k (c ∷ cs) = Rel 1 c (one-over k) × Coefs (suc k) cs
 
 -- q is between 1 / M and h
-pub record Within (M h : ℕ) (q : Frac) : Type 0 where
+pub record Sized (M h : ℕ) (q : Frac) : Type 0 where
   pub low : q .bot ≤ q .top * M
   pub high : q .top ≤ h * q .bot
 
@@ -92,7 +92,7 @@ fact-more k zero = le-of-eq (ap fact (sym (native.Mathlib.Nat.add-zero k)))
 fact-more k (suc j) = rw (native.Mathlib.Nat.add-suc k j) (le-trans (fact-more k j) (native.Mathlib.Nat.le-mul-of-pos-right (fact (k + j)) (zero-lt-suc (k + j))))
 
 -- x at most 1: the value from 1 / k! on is at most j + 1, and at least 1 / k!
-taylor-within : (M k j : ℕ) (x : Frac) → x .top ≤ x .bot → fact (k + j) ≤ M → Within M (suc j) (taylor k j x)
+taylor-within : (M k j : ℕ) (x : Frac) → x .top ≤ x .bot → fact (k + j) ≤ M → Sized M (suc j) (taylor k j x)
 unfolding taylor
 taylor-within M k zero x h f = record { low = le-trans (fact-more k 0) (omega arith); high = omega (arith, fact-pos k) }
 taylor-within M k (suc j) x h f =
@@ -111,13 +111,13 @@ taylor-within M k (suc j) x h f =
     upper : (F a b t d s : ℕ) → 0 < F → a ≤ b → t ≤ s * d → 1 * (b * d) + a * t * F ≤ suc s * (F * (b * d))
     upper F a b t d s P h k = omega (arith, mul-le-mul-right F (mul-le-mul h k), mul-le-mul-right (b * d) P)
 
-within-ample : (M h : ℕ) (q : Frac) → M ≤ 2 ^ 1021 → h ≤ 2 ^ 1022 → Within M h q → Ample q
+within-ample : (M h : ℕ) (q : Frac) → M ≤ 2 ^ 1021 → h ≤ 2 ^ 1022 → Sized M h q → Ample q
 within-ample M h q m k w = record {
   least = le-trans (w .low) (mul-le-mul-left (q .top) m);
   most = le-trans (w .high) (le-trans (mul-le-mul-right (q .bot) k) (le-of-eq (native.Mathlib.Nat.mul-comm (2 ^ 1022) (q .bot))));
 }
 
-within-mul : (M h : ℕ) (x q : Frac) → x .top ≤ x .bot → x .bot ≤ x .top * M → Within M h q → Within (M * M) h (x ⊠ q)
+within-mul : (M h : ℕ) (x q : Frac) → x .top ≤ x .bot → x .bot ≤ x .top * M → Sized M h q → Sized (M * M) h (x ⊠ q)
 within-mul M h x q a b w = record {
   low = omega (arith, mul-le-mul b (w .low));
   high = omega (arith, mul-le-mul a (w .high));
@@ -135,7 +135,7 @@ module _ (r : Float) (M : ℕ) (r-pos : T (lib.Ieee.Positive.positive r)) (small
       let f' : fact (suc k + j) ≤ M = subst (λ (z : ℕ). fact z ≤ M) (shape k j) f in
       let t = taylor (suc k) j x in
       let ih : Rel (1 + 2 * j) (horner d cs r) t = horner-rel (suc k) d cs (hs .0) (hs .1) f' (omega arith) in
-      let w : Within M (suc j) t = taylor-within M (suc k) j x small f' in
+      let w : Sized M (suc j) t = taylor-within M (suc k) j x small f' in
       let m : Rel e (mul binary64 r (horner d cs r)) (x ⊠ t) =
       rel-mul 0 (1 + 2 * j) r (horner d cs r) x t (rel-exact r r-pos) ih (omega arith) (within-ample (M * M) (suc j) (x ⊠ t) square (le-trans {m = 1000} (omega arith) (lit≤ tt)) (within-mul M (suc j) x t small large w)) in
       rel-weaken (1 + e) (1 + 2 * suc j) (add binary64 c (mul binary64 r (horner d cs r))) (one-over k ⊞ x ⊠ t) (omega arith)

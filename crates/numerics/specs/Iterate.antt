@@ -1,13 +1,9 @@
--- A counting loop as a definition, once for every loop: `iter step n a` is a after the steps 0, 1, .., n - 1.
--- It stays shut, so that antt does not write out the steps of a literal n; proofs go by the laws.
+-- What a counting loop's proof asks of `iter` and `range`, which `Loop` defines. Assumes nothing.
 use mathlib.Core.Path.{_≡_, refl, sym, ap, _∙_}
-use Prim.Native.Nat.{ℕ, zero, suc, _+_, _-_, _≤_}
+use Prim.Native.Nat.{ℕ, _+_, _-_, _≤_}
 use native.Mathlib.Numerals.{add-one}
 use native.Mathlib.Omega.{arith}
-
-unfoldable pub iter : {A : Type 0} → (ℕ → A → A) → ℕ → A → A
-iter step zero a = a
-iter step (suc k) a = step k (iter step k a)
+unfoldable pub use Rattle.numerics.specs.Loop.{iter, range}
 
 -- where a loop begins
 pub iter-zero : {A : Type 0} (step : ℕ → A → A) (a : A) → iter step 0 a ≡ a
@@ -31,10 +27,7 @@ iter-turn step k a₀ inv e = e ∙ ap (step k) inv ∙ sym (iter-next step k a�
 pub iter-done : {A : Type 0} (step : ℕ → A → A) (k n : ℕ) (a₀ : A) {a : A} → a ≡ iter step k a₀ → k ≡ n → a ≡ iter step n a₀
 iter-done step k n a₀ inv e = inv ∙ ap (λ (m : ℕ). iter step m a₀) e
 
--- The steps lo, lo + 1, .., hi - 1: a loop `for j in lo..hi`.
-unfoldable pub range : {A : Type 0} → (ℕ → A → A) → ℕ → ℕ → A → A
-range step lo hi a = iter (λ k. step (lo + k)) (hi - lo) a
-
+-- the same of a loop from lo to hi
 pub range-begins : {A : Type 0} (step : ℕ → A → A) (lo : ℕ) (a : A) → a ≡ range step lo lo a
 unfolding range
 range-begins step lo a = let e : lo - lo ≡ 0 = omega arith in rw e (iter-begins _ a)

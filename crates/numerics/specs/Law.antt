@@ -5,6 +5,7 @@ use Prim.Native.Nat.{ℕ, zero, suc, _+_, _-_, _*_, _^_, _≤_, _<_}
 use native.Mathlib.Nat.{le-refl, le-trans, le-of-eq, le-of-suc-le, mul-pos, zero-lt-suc, mul-one, one-mul, mul-le-mul, mul-le-mul-right, mul-le-mul-left, le-of-mul-le-mul-right, pow-suc, pow-zero, sub-self, sub-zero, add-zero, zero-mul, zero-add, add-suc, suc-add, add-comm, add-sub-cancel, add-sub-cancel-left, le-add-left, le-add-right, eq-of-mul-eq-mul-left}
 use native.Mathlib.Omega.{arith}
 use Rattle.numerics.specs.Frac.{Frac, _⊑_, _⊞_, _⊠_, ⊑-refl, ⊑-trans}
+pub use Rattle.numerics.specs.Frac.{over}
 use Rattle.numerics.specs.Conv.{sum, conv, shift, D, sum-cong, sum-scale, conv-cong, conv-scale, conv-scale', leibniz, triangle-in-square, box-in-triangle}
 use Rattle.numerics.specs.Series.{sumTop, sumBot, sumBot-pos, S, Above, Below, S-mono, S-arg, above-arg, below-arg}
 
@@ -155,9 +156,6 @@ pub below-mul : (x y p q : Frac) → Below x p → Below y q → Below (x ⊞ y)
 below-mul x y p q (m, h) (n, k) = (n + m, ⊑-trans (p ⊠ q) (S m x ⊠ S n y) (S (n + m) (x ⊞ y)) (mono-⊠ p (S m x) q (S n y) h k) (law-upper m n x y))
 
 -- ---- bounds divide: a bound of e ^ (x + y) and one of e ^ y give one of e ^ x
-abbrev pub over : (p q : Frac) → 0 < q .top → Frac
-over p q Q = record { top = p .top * q .bot; bot = q .top * p .bot; good = mul-pos Q (p .good) }
-
 pub above-div : (x y b p : Frac) (P : 0 < p .top) → Above (x ⊞ y) b → Below y p → Above x (over b p P)
 above-div x y b p P h (n, k) m =
     split (S m x) p b

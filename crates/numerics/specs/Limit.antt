@@ -1,15 +1,14 @@
--- The tail's bound T n a = 2 a ^ (n + 1) / (n + 1)! comes under every fraction (`tail-small`), so an order that holds up to a multiple of each T n a holds (`limit`). Assumes nothing.
+-- The tail's bound cut n a = 2 a ^ (n + 1) / (n + 1)! comes under every fraction (`tail-small`), so an order that holds up to a multiple of each cut n a holds (`limit`). Assumes nothing.
 use Prim.Native.Nat.{ℕ, zero, suc, _+_, _*_, _^_, _≤_, _<_}
 use native.Mathlib.Nat.{le-trans, mul-le-mul-right, mul-le-mul-left, le-of-mul-le-mul-right, pow-suc, add-suc, add-zero}
 use mathlib.Core.Bool.{Bool, true, false, not}
-use lib.Dec.{leb, leb→le, nleb→lt}
-use lib.Dec as dec
+use lib.Dec.{T, leb, leb→le, nleb→lt}
 use native.Mathlib.Omega.{arith}
 use Rattle.numerics.specs.Frac.{Frac, _⊑_, _⊞_, _⊠_}
 use Rattle.numerics.specs.Series.{sumBot, sumBot-pos}
 
-abbrev pub T : ℕ → Frac → Frac
-T n a = record { top = 2 * a .top ^ suc n; bot = sumBot (suc n) (a .bot); good = sumBot-pos (suc n) (a .bot) (a .good) }
+abbrev pub cut : ℕ → Frac → Frac
+cut n a = record { top = 2 * a .top ^ suc n; bot = sumBot (suc n) (a .bot); good = sumBot-pos (suc n) (a .bot) (a .good) }
 
 -- n is far enough out for the bound to hold at a
 abbrev pub Far : ℕ → Frac → Type 0
@@ -24,7 +23,7 @@ far-first a = go (a .top) (a .bot) (a .good)
     go : (t b : ℕ) → 0 < b → 2 * t ≤ b * suc (suc (2 * t))
     go t b B = omega (arith, mul-le-mul-right (suc (suc (2 * t))) B)
 
--- T (n + j) is at most T n / (j + 1)
+-- cut (n + j) is at most cut n / (j + 1)
 fall : (n j : ℕ) (a : Frac) → Far n a → a .top ^ suc (n + j) * suc j * sumBot (suc n) (a .bot) ≤ a .top ^ suc n * sumBot (suc (n + j)) (a .bot)
 fall n zero a h = rw add-zero (omega arith)
 fall n (suc j) a h =
@@ -41,14 +40,14 @@ fall n (suc j) a h =
         → a .top ^ suc (suc (n + j)) * suc (suc j) * sumBot (suc n) (a .bot) ≤ a .top ^ suc n * sumBot (suc (suc (n + j))) (a .bot)
     step n j a h ih = unfold sumBot in rw (pow-suc (a .top) (suc (n + j))) (turn (a .top ^ suc n) (sumBot (suc n) (a .bot)) (a .top ^ suc (n + j)) (sumBot (suc (n + j)) (a .bot)) (a .top) (a .bot * suc (suc (n + j))) j h ih)
 
-pub tail-anti : (n j : ℕ) (a : Frac) → Far n a → T (n + j) a ⊑ T n a
+pub tail-anti : (n j : ℕ) (a : Frac) → Far n a → cut (n + j) a ⊑ cut n a
 tail-anti n j a h = less (a .top ^ suc (n + j)) (sumBot (suc n) (a .bot)) (a .top ^ suc n) (sumBot (suc (n + j)) (a .bot)) j (fall n j a h)
   where
     less : (t B0 t0 B j : ℕ) → t * suc j * B0 ≤ t0 * B → 2 * t * B0 ≤ 2 * t0 * B
     less t B0 t0 B j h = omega arith
 
--- so T l * N is at most 1 for some l
-pub tail-small : (a : Frac) (N : ℕ) → (l : ℕ) × (Far l a × (T l a .top * N ≤ T l a .bot))
+-- so cut l * N is at most 1 for some l
+pub tail-small : (a : Frac) (N : ℕ) → (l : ℕ) × (Far l a × (cut l a .top * N ≤ cut l a .bot))
 tail-small a N =
     let n = 2 * a .top in
     let t0 = 2 * a .top ^ suc n in
@@ -63,11 +62,11 @@ tail-small a N =
 pub archimedes : (X Y C : ℕ) → ((N : ℕ) → N * X ≤ N * Y + C) → X ≤ Y
 archimedes X Y C h = go (leb X Y) (leb→le X Y) (nleb→lt X Y)
   where
-    go : (b : Bool) → (dec.T b → X ≤ Y) → (dec.T (not b) → Y < X) → X ≤ Y
+    go : (b : Bool) → (T b → X ≤ Y) → (T (not b) → Y < X) → X ≤ Y
     go true p q = p tt
     go false p q = omega (arith, h (suc C), mul-le-mul-left (suc C) (q tt))
 
-pub limit : (a x y c : Frac) → ((l : ℕ) → Far l a → x ⊑ y ⊞ c ⊠ T l a) → x ⊑ y
+pub limit : (a x y c : Frac) → ((l : ℕ) → Far l a → x ⊑ y ⊞ c ⊠ cut l a) → x ⊑ y
 limit a x y c h =
     le-of-mul-le-mul-right {k = c .bot} (omega (arith, archimedes (x .top * y .bot * c .bot) (y .top * x .bot * c .bot) (c .top * y .bot * x .bot) each)) (c .good)
   where
@@ -75,4 +74,4 @@ limit a x y c h =
     clear N xt xb yt yb ct cb t B P s l = le-of-mul-le-mul-right {k = B} (omega (arith, mul-le-mul-left N l, mul-le-mul-left (ct * yb * xb) s)) P
 
     each : (N : ℕ) → N * (x .top * y .bot * c .bot) ≤ N * (y .top * x .bot * c .bot) + c .top * y .bot * x .bot
-    each N = let s = tail-small a N in clear N (x .top) (x .bot) (y .top) (y .bot) (c .top) (c .bot) (T (s .0) a .top) (T (s .0) a .bot) (T (s .0) a .good) (s .1 .1) (h (s .0) (s .1 .0))
+    each N = let s = tail-small a N in clear N (x .top) (x .bot) (y .top) (y .bot) (c .top) (c .bot) (cut (s .0) a .top) (cut (s .0) a .bot) (cut (s .0) a .good) (s .1 .1) (h (s .0) (s .1 .0))

@@ -1,7 +1,7 @@
 -- Ways to show that r is within ε × max(1, |ln x|) of ln x (`LnNear`).
 --   ln-near-of           r = y ≥ 0, from LE y x d, Below (y + d) x and d ≤ ε c, where c ≤ 1 or Above c x
 --   ln-near-of-inv       r = -y, from the same of 1 / x
---   ln-weaken            a wider distance
+--   ln-weaken, ln-near-weaken   a wider distance
 --   ln-near-plus         r = y ≥ 0, known to be within d ≤ δ × max(1, y), where δ (1 + ε) ≤ ε
 --   ln-near-minus        the same for r = -y
 -- Assumes nothing.
@@ -33,6 +33,13 @@ ln-weaken d d' x r h w = record {
 
     up : (p m b t s t' s' : ℕ) → t * s' ≤ t' * s → ((p * s + t * b) * (b * s') + m * s' * (b * s)) * (b * s' * (b * s)) ≤ ((p * s' + t' * b) * (b * s) + m * s * (b * s')) * (b * s * (b * s'))
     up p m b t s t' s' h = omega (arith, mul-le-mul-right (b * b * (b * s * (b * s'))) h)
+
+pub ln-near-weaken : (ε η x : Frac) (r : Signed) → ε ⊑ η → LnNear ε x r → LnNear η x r
+ln-near-weaken ε η x r h n = record { d = n .d; within = n .within; small = go (n .small) }
+  where
+    go : (n .d ⊑ ε) ⊎ ((c : Frac) × (LnReaches c x × (n .d ⊑ ε ⊠ c))) → (n .d ⊑ η) ⊎ ((c : Frac) × (LnReaches c x × (n .d ⊑ η ⊠ c)))
+    go (inl k) = inl (⊑-trans (n .d) ε η k h)
+    go (inr (c, k)) = inr (c, (k .0, ⊑-trans (n .d) (ε ⊠ c) (η ⊠ c) (k .1) (mono-⊠ ε η c c h (⊑-refl c))))
 
 -- max(1, y)
 abbrev pub from-one : Frac → Frac

@@ -1,37 +1,27 @@
 -- `Rel` for values that may be zero: `Rel0 e v q` says that v is finite, not negative, and e roundings from q. Assumes nothing.
-use mathlib.Core.Path.{_≡_, refl, sym, ap, _∙_, subst}
+use mathlib.Core.Path.{_≡_, refl, sym, _∙_, subst}
 use mathlib.Core.Logic.{_⊎_, inl, inr}
-use Prim.Native.Nat.{ℕ, zero, suc, _+_, _-_, _*_, _/_, _%_, _^_, _≤_, _<_, zero-le}
-use native.Mathlib.Nat.{le-refl, le-trans, le-of-eq, lt-of-lt-of-le, mul-pos, mul-one, zero-mul, mul-le-mul-right, mul-le-mul-left, le-of-mul-le-mul-right, eq-of-mul-eq-mul-right, eq-zero-or-pos, one-le-pow, not-le-of-lt}
+use Prim.Native.Nat.{ℕ, _+_, _-_, _*_, _^_, _≤_, _<_}
+use native.Mathlib.Nat.{mul-pos, zero-mul, eq-of-mul-eq-mul-right, eq-zero-or-pos, one-le-pow}
 use native.Mathlib.Omega.{arith}
-use mathlib.Core.Bool.{Bool, true, false, not, cond, true≢false}
-use lib.IntN.{ℤ}
-use lib.Dec.{T, ltb, ltb→lt, lit≤, lit<}
+use mathlib.Core.Bool.{Bool, true, false, not, true≢false}
+use lib.Dec.{T}
 use lib.Pow.{pow-pos}
-use lib.Ieee.{Float, nan, inf, fin, Format, binary64, up, down, low, prec, round, add, sub, mul, div, sum}
-use lib.Ieee.Nearest.{closest}
-use lib.Ieee.Order.{drop, kept}
+use lib.Ieee.{Float, nan, inf, fin, Format, binary64, round, add, mul, div}
 use lib.Ieee.Exact.{HasValue}
-use lib.Ieee.Scale.{grid, overflow, round-val}
-use lib.Ieee.Positive.{num, den, positive, den-pos, value→cross}
-use Rattle.numerics.specs.Frac.{Frac, _⊑_, _⊞_, _⊠_, big, small, small-pos, Under, Close, close-trans, close-weaken, close-mul, close-add, close-refl}
-use Rattle.numerics.specs.Round.{val, Rel, Normal, round-rel, closest-above}
+use lib.Ieee.Scale.{finite}
+use lib.Ieee.Positive.{num, den, positive, value→cross, positive-finite}
+use Rattle.numerics.specs.Frac.{Frac, _⊞_, _⊠_, big, small, small-pos, Close, close-trans, close-weaken, close-mul, close-add}
+use Rattle.numerics.specs.Round.{val, Rel, Normal, round-rel, num-pos}
+use Rattle.numerics.specs.Fixed.{zero-val}
+use Rattle.numerics.specs.Sign.{no-sign}
+pub use Rattle.numerics.specs.Sign.{nonneg, nonneg-positive, nonneg-finite}
+use Rattle.numerics.specs.Rounding.{add-upright, mul-upright, div-upright}
 use Rattle.numerics.specs.Rel.{Ample, normal-of-close}
-
-abbrev pub nonneg : Float → Bool
-nonneg nan = false
-nonneg (inf s) = false
-nonneg (fin s m e) = not s
 
 pub record Rel0 (e : ℕ) (v : Float) (q : Frac) : Type 0 where
   pub sign : T (nonneg v)
   pub near : Close e (val v) q
-
-pub nonneg-positive : (v : Float) → T (positive v) → T (nonneg v)
-nonneg-positive nan p = absurd p
-nonneg-positive (inf s) p = absurd p
-nonneg-positive (fin true m e) p = absurd p
-nonneg-positive (fin false m e) p = tt
 
 pub rel0-of-rel : (e : ℕ) (v : Float) (q : Frac) → Rel e v q → Rel0 e v q
 rel0-of-rel e v q r = record { sign = nonneg-positive v (r .pos); near = r .near }
@@ -43,21 +33,6 @@ nonneg-value (fin true m e) a c h = absurd (true≢false (h .0))
 nonneg-value (fin false m e) a c h = tt
 
 -- ---- a zero rounds to zero
-closest-zero : (u : ℕ) → 0 < u → closest 0 u ≡ 0
-closest-zero u U = elim (eq-zero-or-pos (closest 0 u)) [ inl z ↦ z | inr p ↦ absurd (clash (closest 0 u) u U p (closest-above 0 u U)) ]
-  where
-    clash : (q u : ℕ) → 0 < u → 0 < q → 2 * (q * u) ≤ 2 * 0 + u → ⊥
-    clash q u U Q h = omega (arith, mul-le-mul-right u Q)
-
-zero-grid : (c : ℕ) → 0 < c → grid binary64 0 c ≡ 0
-zero-grid c C =
-    ap (λ (z : ℕ). kept 53 z c * 2 ^ drop 53 z c) (zero-mul (2 ^ 1074))
-    ∙ ap (λ (z : ℕ). z * 2 ^ drop 53 0 c) (closest-zero (c * 2 ^ drop 53 0 c) (mul-pos C (pow-pos (drop 53 0 c))))
-    ∙ zero-mul (2 ^ drop 53 0 c)
-
-pub zero-val : (c : ℕ) → 0 < c → HasValue (round binary64 false 0 c) false 0 (2 ^ 1074)
-zero-val c C = subst (λ (z : ℕ). HasValue (round binary64 false 0 c) false z (2 ^ 1074)) (zero-grid c C) (round-val binary64 0 c (subst (λ (z : ℕ). z < overflow binary64) (sym (zero-grid c C)) (pow-pos 2098)))
-
 zero-rel : (c : ℕ) (C : 0 < c) (e : ℕ) → Rel0 e (round binary64 false 0 c) (record { top = 0; bot = c; good = C })
 zero-rel c C e =
     let v = round binary64 false 0 c in
@@ -83,24 +58,13 @@ round-rel0 q (inr n) = rel0-of-rel 1 (round binary64 false (q .top) (q .bot)) q 
 
 -- ---- the operators
 pub add-is0 : (f : Format) (x y : Float) → T (nonneg x) → T (nonneg y) → add f x y ≡ round f false (num x * den y + num y * den x) (den x * den y)
-unfolding add sum
-add-is0 f nan y p q = absurd p
-add-is0 f (inf s) y p q = absurd p
-add-is0 f (fin true m e) y p q = absurd p
-add-is0 f (fin false m e) nan p q = absurd q
-add-is0 f (fin false m e) (inf t) p q = absurd q
-add-is0 f (fin false m e) (fin true n d) p q = absurd q
-add-is0 f (fin false m e) (fin false n d) p q = refl
+add-is0 f x y p q = add-upright f x y (nonneg-finite x p) (nonneg-finite y q) (no-sign x p) (no-sign y q)
 
 pub mul-is0 : (f : Format) (x y : Float) → T (nonneg x) → T (nonneg y) → mul f x y ≡ round f false (num x * num y) (den x * den y)
-unfolding mul
-mul-is0 f nan y p q = absurd p
-mul-is0 f (inf s) y p q = absurd p
-mul-is0 f (fin true m e) y p q = absurd p
-mul-is0 f (fin false m e) nan p q = absurd q
-mul-is0 f (fin false m e) (inf t) p q = absurd q
-mul-is0 f (fin false m e) (fin true n d) p q = absurd q
-mul-is0 f (fin false m e) (fin false n d) p q = refl
+mul-is0 f x y p q = mul-upright f x y (nonneg-finite x p) (nonneg-finite y q) (no-sign x p) (no-sign y q)
+
+pub div-is0 : (f : Format) (x y : Float) → T (nonneg x) → T (positive y) → div f x y ≡ round f false (num x * den y) (num y * den x)
+div-is0 f x y p q = div-upright f x y (nonneg-finite x p) (positive-finite y q) (no-sign x p) (no-sign y (nonneg-positive y q)) (num-pos y q)
 
 -- ---- zero or in range, by what it is close to
 pub fine-of-close : (e : ℕ) (p q : Frac) → e ≤ 1000 → Close e p q → (q .top ≡ 0) ⊎ Ample q → Fine p

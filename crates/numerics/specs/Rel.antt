@@ -1,82 +1,35 @@
 -- The operators of binary64 on values above zero, as one rounding of the exact fraction (`add-is`, `mul-is`, `div-is`, `sub-is`),
 -- and how the count of roundings goes through them (`rel-add`, `rel-mul`, `rel-div`). Assumes nothing.
-use mathlib.Core.Path.{_≡_, refl, sym, ap, _∙_, subst}
-use Prim.Native.Nat.{ℕ, zero, suc, _+_, _-_, _*_, _/_, _%_, _^_, _≤_, _<_, max}
-use native.Mathlib.Nat.{le-refl, le-trans, le-of-eq, lt-of-lt-of-le, mul-pos, mul-le-mul, mul-le-mul-right, mul-le-mul-left, le-of-mul-le-mul-right, not-le-of-lt, le-max-left, le-max-right, lt-irrefl}
+use mathlib.Core.Path.{_≡_, refl}
+use Prim.Native.Nat.{ℕ, _+_, _-_, _*_, _^_, _≤_, _<_}
+use native.Mathlib.Nat.{mul-pos, mul-le-mul-right, mul-le-mul-left, le-of-mul-le-mul-right}
 use native.Mathlib.Omega.{arith}
-use mathlib.Core.Bool.{Bool, true, false, not, cond}
-use lib.IntN.{ℤ}
-use lib.Dec.{T, ltb, eqb, eqb→eq, ltb→lt, lit≤, lit<}
-use lib.Ieee.{Float, nan, inf, fin, Format, binary64, up, down, round, add, sub, mul, div, sum, le, lt}
-use lib.Ieee.Fits.{up-pos, down-pos}
-use lib.Ieee.Positive.{num, den, positive, den-pos, own-value, mul-at, le→cross}
+use mathlib.Core.Bool.{true, false}
+use lib.Dec.{T, lit≤}
+use lib.Ieee.{Float, nan, inf, fin, Format, binary64, round, add, sub, mul, div}
+use lib.Ieee.Positive.{num, den, positive, positive-finite}
 use Rattle.numerics.specs.Frac.{Frac, _⊑_, _⊞_, _⊠_, big, small, Under, Close, under-weaken, close-trans, close-weaken, close-mul, close-add, close-refl}
 use Rattle.numerics.specs.Round.{val, Rel, Normal, round-rel}
+use Rattle.numerics.specs.Sign.{negative, nonneg-positive, no-sign}
+use Rattle.numerics.specs.Rounding.{add-upright, mul-upright, div-upright, sub-upright}
+pub use Rattle.numerics.specs.Frac.{over, less}
+pub use Rattle.numerics.specs.Round.{num-pos}
 
--- ---- each operator is one rounding
-pub num-pos : (x : Float) → T (positive x) → 0 < num x
-num-pos nan p = absurd p
-num-pos (inf s) p = absurd p
-num-pos (fin true m e) p = absurd p
-num-pos (fin false m e) p = mul-pos (ltb→lt 0 m p) (up-pos e)
+-- ---- each operator is one rounding: `Rounding`, where neither operand has a sign
+plain : (x : Float) → T (positive x) → negative x ≡ false
+plain x p = no-sign x (nonneg-positive x p)
 
 pub add-is : (f : Format) (x y : Float) → T (positive x) → T (positive y) → add f x y ≡ round f false (num x * den y + num y * den x) (den x * den y)
-unfolding add sum
-add-is f nan y p q = absurd p
-add-is f (inf s) y p q = absurd p
-add-is f (fin true m e) y p q = absurd p
-add-is f (fin false m e) nan p q = absurd q
-add-is f (fin false m e) (inf t) p q = absurd q
-add-is f (fin false m e) (fin true n d) p q = absurd q
-add-is f (fin false m e) (fin false n d) p q = refl
+add-is f x y p q = add-upright f x y (positive-finite x p) (positive-finite y q) (plain x p) (plain y q)
 
 pub mul-is : (f : Format) (x y : Float) → T (positive x) → T (positive y) → mul f x y ≡ round f false (num x * num y) (den x * den y)
-mul-is f x y p q = mul-at f x y (num x) (den x) (num y) (den y) p q (den-pos x) (den-pos y) (own-value x p) (own-value y q)
-
-nonzero : (A : Type 0) (n : ℕ) (u v : A) → 0 < n → cond (eqb n 0) u v ≡ v
-nonzero A n u v h = go (eqb n 0) (eqb→eq n 0)
-  where
-    go : (b : Bool) → (T b → n ≡ 0) → cond b u v ≡ v
-    go true k = absurd (lt-irrefl 0 (subst (λ (z : ℕ). 0 < z) (k tt) h))
-    go false k = refl
+mul-is f x y p q = mul-upright f x y (positive-finite x p) (positive-finite y q) (plain x p) (plain y q)
 
 pub div-is : (f : Format) (x y : Float) → T (positive x) → T (positive y) → div f x y ≡ round f false (num x * den y) (num y * den x)
-unfolding div
-div-is f nan y p q = absurd p
-div-is f (inf s) y p q = absurd p
-div-is f (fin true m e) y p q = absurd p
-div-is f (fin false m e) nan p q = absurd q
-div-is f (fin false m e) (inf t) p q = absurd q
-div-is f (fin false m e) (fin true n d) p q = absurd q
-div-is f (fin false m e) (fin false n d) p q = nonzero Float n (cond (eqb m 0) nan (inf false)) (round f false (m * up e * down d) (n * up d * down e)) (ltb→lt 0 n q)
-
-pick : (f : Format) (a b c : ℕ) → b ≤ a → sum f false a true b c ≡ round f false (a - b) c
-unfolding sum
-pick f a b c h = go (ltb a b) (ltb→lt a b)
-  where
-    go : (t : Bool) → (T t → a < b) → cond t (round f true (b - a) c) (round f false (a - b) c) ≡ round f false (a - b) c
-    go true k = absurd (not-le-of-lt (k tt) h)
-    go false k = refl
-
-opened : (f : Format) (m : ℕ) (e : ℤ) (n : ℕ) (d : ℤ) → sub f (fin false m e) (fin false n d) ≡ sum f false (m * up e * down d) true (n * up d * down e) (down e * down d)
-unfolding sub
-opened f m e n d = refl
+div-is f x y p q = div-upright f x y (positive-finite x p) (positive-finite y q) (plain x p) (plain y q) (num-pos y q)
 
 pub sub-is : (f : Format) (x y : Float) → T (positive x) → T (positive y) → num y * den x ≤ num x * den y → sub f x y ≡ round f false (num x * den y - num y * den x) (den x * den y)
-sub-is f nan y p q h = absurd p
-sub-is f (inf s) y p q h = absurd p
-sub-is f (fin true m e) y p q h = absurd p
-sub-is f (fin false m e) nan p q h = absurd q
-sub-is f (fin false m e) (inf t) p q h = absurd q
-sub-is f (fin false m e) (fin true n d) p q h = absurd q
-sub-is f (fin false m e) (fin false n d) p q h = opened f m e n d ∙ pick f (m * up e * down d) (n * up d * down e) (down e * down d) h
-
--- ---- a quotient and a difference of fractions
-abbrev pub over : (p q : Frac) → 0 < q .top → Frac
-over p q Q = record { top = p .top * q .bot; bot = q .top * p .bot; good = mul-pos Q (p .good) }
-
-abbrev pub less : Frac → Frac → Frac
-less p q = record { top = p .top * q .bot - q .top * p .bot; bot = p .bot * q .bot; good = mul-pos (p .good) (q .good) }
+sub-is f x y p q h = sub-upright f x y (positive-finite x p) (positive-finite y q) (plain x p) (plain y q) h
 
 -- ---- one operation on exact operands
 pub add-rel : (x y : Float) → T (positive x) → T (positive y) → Normal (val x ⊞ val y) → Rel 1 (add binary64 x y) (val x ⊞ val y)

@@ -1,20 +1,21 @@
 -- What `round` gives is within half a unit in the last place of the fraction, and so, in the normal range, within one part in 2 ^ prec (`grid-near`).
 -- For binary64: `round-close`. Then the sums, products, quotients and differences of values above zero. Assumes nothing.
-use mathlib.Core.Path.{_≡_, refl, sym, ap, _∙_, subst}
-use Prim.Native.Nat.{ℕ, zero, suc, _+_, _-_, _*_, _/_, _%_, _^_, _≤_, _<_, compare, Ordering, Ordering·lt, Ordering·eq, Ordering·gt}
-use native.Mathlib.Nat.{le-trans, le-of-eq, le-of-lt, lt-of-lt-of-le, lt-of-le-of-lt, mul-pos, mul-one, one-mul, mul-assoc, mul-le-mul, mul-le-mul-right, mul-le-mul-left, le-of-mul-le-mul-right, mul-lt-mul-of-pos-right, lt-of-mul-lt-mul-right, div-add-mod', mod-lt, le-div-iff-mul-le, pow-suc}
+use mathlib.Core.Path.{_≡_, refl, ap, _∙_}
+use Prim.Native.Nat.{ℕ, suc, _+_, _-_, _*_, _/_, _%_, _^_, _≤_, _<_, compare, Ordering, Ordering·lt, Ordering·eq, Ordering·gt}
+use native.Mathlib.Nat.{le-trans, le-of-eq, le-of-lt, lt-of-lt-of-le, mul-pos, one-mul, mul-le-mul-right, mul-le-mul-left, le-of-mul-le-mul-right, lt-of-mul-lt-mul-right, div-add-mod', mod-lt, le-div-iff-mul-le, pow-suc}
 use native.Mathlib.Omega.{arith}
-use mathlib.Core.Bool.{Bool, true, false, not, _&&_, cond}
-use lib.Dec.{T, isLe, isEq, leb→le, nleb→lt, eqb→eq, lit≤, lit<}
+use mathlib.Core.Bool.{false, not}
+use lib.Dec.{T, isLe, isEq, leb→le, nleb→lt, eqb→eq, lit≤}
 use lib.Pow.{pow-add, pow-pos}
-use lib.Ieee.{Float, nan, inf, fin, Format, binary64, prec, emax, low, up, down, size, nearest, round, add, sub, mul, div, sum}
+use lib.Ieee.{Float, Format, binary64, prec, low, size, nearest, round}
 use lib.Ieee.Digits.{size-reaches}
 use lib.Ieee.Nearest.{closest}
 use lib.Ieee.Order.{drop, kept}
 use lib.Ieee.Exact.{HasValue}
 use lib.Ieee.Scale.{grid, overflow, round-val, normal-of-fraction}
-use lib.Ieee.Positive.{num, den, positive, den-pos, own-value, value→cross, positive-of-value, first-pos, mul-at, le→cross}
-use Rattle.numerics.specs.Frac.{Frac, _⊑_, _⊞_, _⊠_, big, small, small-suc, small-pos, Under, Close}
+use lib.Ieee.Positive.{num, den, positive, den-pos, own-value, value-pos, value→cross, positive-of-value, first-pos}
+pub use Rattle.numerics.specs.Fraction.{val}
+use Rattle.numerics.specs.Frac.{Frac, big, small, small-suc, small-pos, Close}
 
 -- ---- closest n u * u is within half of u of n
 abbrev Half : Ordering → ℕ → ℕ → Type 0
@@ -69,11 +70,11 @@ near-below : (P k u n : ℕ) → P * u ≤ n → 2 * n ≤ 2 * (k * u) + u → n
 near-below P k u n h l = omega (arith, mul-le-mul-left P l)
 
 -- ---- the rounded value in units of the format's smallest, for a / c that is 2 ^ (prec - 1) units at least
-pub record Near (f : Format) (a c : ℕ) : Type 0 where
+pub record NearGrid (f : Format) (a c : ℕ) : Type 0 where
   pub above : grid f a c * c * (2 * 2 ^ (prec f - 1)) ≤ a * 2 ^ low f * (2 * 2 ^ (prec f - 1) + 1)
   pub below : a * 2 ^ low f * (2 * 2 ^ (prec f - 1)) ≤ grid f a c * c * (2 * 2 ^ (prec f - 1)) + a * 2 ^ low f
 
-pub grid-near : (f : Format) (a c : ℕ) → 0 < prec f → 0 < c → prec f ≤ size (a * 2 ^ low f / c) → Near f a c
+pub grid-near : (f : Format) (a c : ℕ) → 0 < prec f → 0 < c → prec f ≤ size (a * 2 ^ low f / c) → NearGrid f a c
 grid-near f a c P C N =
     let n = a * 2 ^ low f in
     let k = drop (prec f) n c in
@@ -87,9 +88,9 @@ grid-near f a c P C N =
       below = rw e (near-below (2 ^ (prec f - 1)) K u n s (closest-below n u U));
     }
 
--- ---- a value's size as a fraction
-abbrev pub val : Float → Frac
-val x = record { top = num x; bot = den x; good = den-pos x }
+-- a value above zero has a top above zero
+pub num-pos : (x : Float) → T (positive x) → 0 < num x
+num-pos x p = value-pos x (num x) (den x) p (den-pos x) (own-value x p)
 
 -- v is finite, above zero, and e roundings away from q
 pub record Rel (e : ℕ) (v : Float) (q : Frac) : Type 0 where
@@ -126,7 +127,7 @@ floor-up : (a c Q M : ℕ) → c ≤ a * M → Q * c ≤ a * (Q * M)
 floor-up a c Q M h = omega (arith, mul-le-mul-left Q h)
 
 -- ---- rounding to binary64
-pub near-of : (a c : ℕ) → 0 < c → c ≤ a * 2 ^ 1022 → Near binary64 a c
+pub near-of : (a c : ℕ) → 0 < c → c ≤ a * 2 ^ 1022 → NearGrid binary64 a c
 near-of a c C h = grid-near binary64 a c (lit≤ tt) C (normal-of-fraction binary64 a c C (floor-up a c (2 ^ 52) (2 ^ 1022) h))
 
 pub inside : (a c : ℕ) → 0 < c → c ≤ a * 2 ^ 1022 → a ≤ c * 2 ^ 1023 → grid binary64 a c < overflow binary64

@@ -1,5 +1,5 @@
 -- The laws of rounding at binary64, stated once over the operation: + - × / on finite operands, at any signs.
---   is-rounded         the result is the exact one, rounded once
+--   is-rounded         the result is the exact one, rounded once (`rounded-at`: in any format; `add-upright` and so on: of operands without a sign)
 --   within-unit        |result - exact| ≤ 2 ^ -53 * |exact|, and the sign is right, where the exact result is at least 2 ^ -1022 and the result is finite
 --   normal-finite      the result is finite where the exact one is between 2 ^ -1022 and 2 ^ 1023
 --   within-half-unit   |result - exact| ≤ half a unit in the last place, wherever the result is finite
@@ -7,39 +7,37 @@
 --   monotone           a larger exact result rounds to no smaller double
 --   beyond-above, beyond-below   a double strictly beyond the result is strictly beyond the exact one
 -- Assumes nothing.
-use mathlib.Core.Path.{_≡_, refl, sym, ap, _∙_, subst}
+use mathlib.Core.Path.{_≡_, refl, sym, ap, ap₂, _∙_, subst}
 use Prim.Native.Nat.{ℕ, zero, suc, _+_, _-_, _*_, _^_, _≤_, _<_}
 use native.Mathlib.Nat.{mul-pos, mul-le-mul-right, le-of-mul-le-mul-right, lt-irrefl}
 use native.Mathlib.Omega.{arith}
+use borrow.Author.Tests.{le-ltb}
 use mathlib.Core.Bool.{Bool, true, false, not, _&&_, cond, Bool·beq}
 use lib.Dec.{T, ltb, eqb, eqb→eq, ltb→lt}
 use lib.Pow.{pow-pos}
-use lib.Ieee.{Float, nan, inf, fin, Format, binary64, up, down, prec, emax, low, odd, units, round, add, sub, mul, div, sum, neg, le, unlike, fits}
+use lib.Ieee.{Float, nan, inf, fin, Format, binary64, up, down, round, add, sub, mul, div, sum, neg, le, unlike, fits}
 use lib.Ieee.Exact.{HasValue}
-use lib.Ieee.Fits.{round-is}
 use lib.Ieee.Order.{drop, kept, round-mono}
-use lib.Ieee.Scale.{grid, overflow, finite, round-val, round-same}
+use lib.Ieee.Scale.{grid, overflow, finite, round-val, round-under, round-same}
 use lib.Ieee.Positive.{num, den, positive, den-pos}
 use Rattle.numerics.specs.Frac.{Frac, _⊑_, _⊞_, _⊠_}
 use Rattle.numerics.specs.Round.{val, Normal, closest-above, closest-below, near-of, inside}
-use Rattle.numerics.specs.Nonneg.{zero-val}
-use Rattle.numerics.specs.Fixed.{round-fixes, above-round, below-round}
+use Rattle.numerics.specs.Fixed.{zero-val, round-fixes, above-round, below-round}
+use Rattle.numerics.specs.Sign.{negative, finite-neg-is, round-neg}
 
 pub data Operation : Type 0 where
   plus minus times over : Operation
 
+abbrev pub apply-at : Format → Operation → Float → Float → Float
+apply-at f plus x y = add f x y
+apply-at f minus x y = sub f x y
+apply-at f times x y = mul f x y
+apply-at f over x y = div f x y
+
 abbrev pub apply : Operation → Float → Float → Float
-apply plus x y = add binary64 x y
-apply minus x y = sub binary64 x y
-apply times x y = mul binary64 x y
-apply over x y = div binary64 x y
+apply o x y = apply-at binary64 o x y
 
 -- ---- the exact result: its sign, and its size as a fraction
-abbrev pub negative : Float → Bool
-negative nan = false
-negative (inf s) = s
-negative (fin s m e) = s
-
 -- a with the sign s and b with the sign t together: of one sign they add, of two the larger less the smaller has the larger's sign
 abbrev pub together : Bool → ℕ → Bool → ℕ → Bool × ℕ
 together s a t b = cond (Bool·beq s t) (s, a + b) (cond (ltb a b) (t, b - a) (s && ltb b a, a - b))
@@ -96,35 +94,51 @@ nonzero n u v h = go (eqb n 0) (eqb→eq n 0)
     go true k = absurd (lt-irrefl 0 (subst (λ (z : ℕ). 0 < z) (k tt) h))
     go false k = refl
 
-pub is-rounded : (o : Operation) (x y : Float) → T (finite x) → T (finite y) → Defined o y → apply o x y ≡ round binary64 (exact-sign o x y) (exact-top o x y) (exact-bot o x y)
+pub rounded-at : (f : Format) (o : Operation) (x y : Float) → T (finite x) → T (finite y) → Defined o y → apply-at f o x y ≡ round f (exact-sign o x y) (exact-top o x y) (exact-bot o x y)
 unfolding add sub neg mul div
-is-rounded o nan y p q d = absurd p
-is-rounded o (inf s) y p q d = absurd p
-is-rounded o (fin s m e) nan p q d = absurd q
-is-rounded o (fin s m e) (inf t) p q d = absurd q
-is-rounded plus (fin s m e) (fin t n k) p q d = sum-is binary64 s (m * up e * down k) t (n * up k * down e) (down e * down k)
-is-rounded minus (fin s m e) (fin t n k) p q d = sum-is binary64 s (m * up e * down k) (not t) (n * up k * down e) (down e * down k)
-is-rounded times (fin s m e) (fin t n k) p q d = refl
-is-rounded over (fin s m e) (fin t n k) p q d = nonzero n (cond (eqb m 0) nan (inf (unlike s t))) (round binary64 (unlike s t) (m * up e * down k) (n * up k * down e)) (lib.Ieee.Positive.first-pos n (up k) d)
+rounded-at f o nan y p q d = absurd p
+rounded-at f o (inf s) y p q d = absurd p
+rounded-at f o (fin s m e) nan p q d = absurd q
+rounded-at f o (fin s m e) (inf t) p q d = absurd q
+rounded-at f plus (fin s m e) (fin t n k) p q d = sum-is f s (m * up e * down k) t (n * up k * down e) (down e * down k)
+rounded-at f minus (fin s m e) (fin t n k) p q d = sum-is f s (m * up e * down k) (not t) (n * up k * down e) (down e * down k)
+rounded-at f times (fin s m e) (fin t n k) p q d = refl
+rounded-at f over (fin s m e) (fin t n k) p q d = nonzero n (cond (eqb m 0) nan (inf (unlike s t))) (round f (unlike s t) (m * up e * down k) (n * up k * down e)) (lib.Ieee.Positive.first-pos n (up k) d)
+
+pub is-rounded : (o : Operation) (x y : Float) → T (finite x) → T (finite y) → Defined o y → apply o x y ≡ round binary64 (exact-sign o x y) (exact-top o x y) (exact-bot o x y)
+is-rounded = rounded-at binary64
+
+-- operands without a sign
+module _ (f : Format) (x y : Float) (p : T (finite x)) (q : T (finite y)) (s : negative x ≡ false) (t : negative y ≡ false) where
+  pub add-upright : add f x y ≡ round f false (num x * den y + num y * den x) (den x * den y)
+  add-upright =
+      let a = num x * den y in
+      let b = num y * den x in
+      rounded-at f plus x y p q tt ∙ ap₂ (λ (u v : Bool). round f (together u a v b .0) (together u a v b .1) (den x * den y)) s t
+
+  pub sub-upright : num y * den x ≤ num x * den y → sub f x y ≡ round f false (num x * den y - num y * den x) (den x * den y)
+  sub-upright h =
+      let a = num x * den y in
+      let b = num y * den x in
+      rounded-at f minus x y p q tt ∙ ap₂ (λ (u v : Bool). round f (together u a (not v) b .0) (together u a (not v) b .1) (den x * den y)) s t
+      ∙ ap (λ (l : Bool). round f (cond {A = Bool × ℕ} l (true, b - a) (false, a - b) .0) (cond {A = Bool × ℕ} l (true, b - a) (false, a - b) .1) (den x * den y)) (le-ltb a b h)
+
+  pub mul-upright : mul f x y ≡ round f false (num x * num y) (den x * den y)
+  mul-upright = rounded-at f times x y p q tt ∙ ap₂ (λ (u v : Bool). round f (unlike u v) (num x * num y) (den x * den y)) s t
+
+  pub div-upright : 0 < num y → div f x y ≡ round f false (num x * den y) (num y * den x)
+  div-upright d = rounded-at f over x y p q d ∙ ap₂ (λ (u v : Bool). round f (unlike u v) (num x * den y) (num y * den x)) s t
 
 -- ---- the sign passes through a rounding
-odd-resign : (d : ℕ) (s : Bool) (q k l a c : ℕ) → HasValue (odd d false q k l) false a c → HasValue (odd d s q k l) s a c
-unfolding odd
-odd-resign d s zero k l a c h = (refl, h .1)
-odd-resign d s (suc q) k l a c h = (refl, h .1)
-
-units-resign : (f : Format) (s : Bool) (q k a c : ℕ) → HasValue (units f false q k) false a c → HasValue (units f s q k) s a c
-unfolding units
-units-resign f s q k a c h = go (ltb (q * 2 ^ k) (2 ^ (low f + suc (emax f)))) h
-  where
-    go : (b : Bool) → HasValue (cond b (odd (suc (prec f)) false q k (low f)) (inf false)) false a c → HasValue (cond b (odd (suc (prec f)) s q k (low f)) (inf s)) s a c
-    go true h = odd-resign (suc (prec f)) s q k (low f) a c h
-    go false h = absurd h
+turned : (v : Float) (a c : ℕ) → HasValue v false a c → HasValue (neg v) true a c
+unfolding neg
+turned nan a c h = absurd h
+turned (inf t) a c h = absurd h
+turned (fin t m e) a c h = (ap not (h .0), h .1)
 
 resign : (f : Format) (s : Bool) (n d a c : ℕ) → HasValue (round f false n d) false a c → HasValue (round f s n d) s a c
-resign f s n d a c h =
-    subst (λ (z : Float). HasValue z s a c) (sym (round-is f s n d))
-    (units-resign f s (kept (prec f) (n * 2 ^ low f) d) (drop (prec f) (n * 2 ^ low f) d) a c (subst (λ (z : Float). HasValue z false a c) (round-is f false n d) h))
+resign f false n d a c h = h
+resign f true n d a c h = rw (round-neg f n d) (turned (round f false n d) a c h)
 
 cross : (v : Float) (s : Bool) (a c : ℕ) → HasValue v s a c → num v * c ≡ a * den v
 cross nan s a c h = absurd h
@@ -132,16 +146,9 @@ cross (inf t) s a c h = absurd h
 cross (fin t m e) s a c h = h .1
 
 -- a finite result is below the overflow
-units-under : (f : Format) (s : Bool) (q k : ℕ) → T (finite (units f s q k)) → q * 2 ^ k < overflow f
-unfolding units
-units-under f s q k = go (ltb (q * 2 ^ k) (overflow f)) (ltb→lt (q * 2 ^ k) (overflow f))
-  where
-    go : (b : Bool) → (T b → q * 2 ^ k < overflow f) → T (finite (cond b (odd (suc (prec f)) s q k (low f)) (inf s))) → q * 2 ^ k < overflow f
-    go true h t = h tt
-    go false h t = absurd t
-
 under : (f : Format) (s : Bool) (a c : ℕ) → T (finite (round f s a c)) → grid f a c < overflow f
-under f s a c t = units-under f s (kept (prec f) (a * 2 ^ low f) c) (drop (prec f) (a * 2 ^ low f) c) (subst (λ (z : Float). T (finite z)) (round-is f s a c) t)
+under f false a c t = round-under f a c t
+under f true a c t = round-under f a c (subst T (ap finite (round-neg f a c) ∙ finite-neg-is (round f false a c)) t)
 
 -- ---- within 2 ^ -53 relatively
 abbrev pub unit : Frac
@@ -190,7 +197,7 @@ pub within-unit : (o : Operation) (x y : Float) → T (finite x) → T (finite y
 within-unit o x y p q d n t = rw (is-rounded o x y p q d) (round-unit (exact-sign o x y) (exact o x y d) n (rw (is-rounded o x y p q d) at t))
 
 -- a result is finite where the exact one is at most 2 ^ 1023
-finite-of-value : (v : Float) (s : Bool) (a c : ℕ) → HasValue v s a c → T (finite v)
+pub finite-of-value : (v : Float) (s : Bool) (a c : ℕ) → HasValue v s a c → T (finite v)
 finite-of-value nan s a c h = absurd h
 finite-of-value (inf t) s a c h = absurd h
 finite-of-value (fin t m e) s a c h = tt

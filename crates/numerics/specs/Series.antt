@@ -1,28 +1,21 @@
 -- The exponential of a fraction x that is not negative, by the partial sums of its power series: S n x = 1 + x + x ^ 2 / 2! + .. + x ^ n / n!.
 -- `Above x q` says that q is at least every partial sum, and so at least e ^ x. `Below x q` says that q is at most some partial sum, and so below e ^ x.
 -- Assumes nothing.
-use mathlib.Core.Path.{_≡_, refl, sym, ap, ap₂, _∙_, subst}
+use mathlib.Core.Path.{refl}
 use Prim.Native.Nat.{ℕ, zero, suc, _+_, _-_, _*_, _^_, _≤_, _<_}
-use native.Mathlib.Nat.{le-refl, le-trans, le-of-eq, mul-pos, zero-lt-suc, mul-one, one-mul, mul-le-mul, mul-le-mul-right, mul-le-mul-left, le-of-mul-le-mul-right, pow-suc, le-total, eq-of-mul-eq-mul-left, eq-of-mul-eq-mul-right}
-use native.Mathlib.Decide.{decLe, le-ind}
+use native.Mathlib.Nat.{le-refl, le-trans, mul-le-mul, mul-le-mul-right, mul-le-mul-left, pow-suc}
+use native.Mathlib.Decide.{le-ind}
 use native.Mathlib.Omega.{arith}
 use lib.Dec.{T, leb, leb→le, nleb→lt}
 use mathlib.Core.Bool.{Bool, true, false, not}
-use Rattle.numerics.specs.Frac.{Frac, _⊑_, _⊞_, _⊠_, nat, ⊑-refl, ⊑-trans}
+unfoldable pub use Rattle.numerics.specs.Exponential.{sumBot}
+pub use Rattle.numerics.specs.Exponential.{sumBot-pos}
+use Rattle.numerics.specs.Frac.{Frac, _⊑_, ⊑-refl, ⊑-trans}
 
 -- ---- x = a / b: the sum up to x ^ n / n! is sumTop n a b / sumBot n b, and sumBot n b is b ^ n * n!
 unfoldable pub sumTop : ℕ → ℕ → ℕ → ℕ
 sumTop zero a b = 1
 sumTop (suc n) a b = sumTop n a b * (b * suc n) + a ^ suc n
-
-unfoldable pub sumBot : ℕ → ℕ → ℕ
-sumBot zero b = 1
-sumBot (suc n) b = sumBot n b * (b * suc n)
-
-pub sumBot-pos : (n b : ℕ) → 0 < b → 0 < sumBot n b
-unfolding sumBot
-sumBot-pos zero b B = le-refl 1
-sumBot-pos (suc n) b B = mul-pos (sumBot-pos n b B) (mul-pos B (zero-lt-suc n))
 
 abbrev pub S : ℕ → Frac → Frac
 S n x = record { top = sumTop n (x .top) (x .bot); bot = sumBot n (x .bot); good = sumBot-pos n (x .bot) (x .good) }

@@ -13,6 +13,10 @@ use Rattle.numerics.specs.Law.{power}
 abbrev pub rho : ℕ → Frac
 rho e = record { top = big ^ e; bot = small ^ e; good = one-le-pow e small small-pos }
 
+-- 1 / rho e
+abbrev pub rho⁻ : ℕ → Frac
+rho⁻ e = record { top = small ^ e; bot = big ^ e; good = one-le-pow e big big-pos }
+
 pub under-rho : (e : ℕ) (p q : Frac) → Under e p q → p ⊑ q ⊠ rho e
 under-rho e p q h = omega arith
 

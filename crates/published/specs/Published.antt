@@ -9,22 +9,16 @@ use Rattle.gerg.specs.declared.Range.{Range}
 use Rattle.gerg.specs.declared.evaluate.EvaluateAnswer.{EvaluateAnswer}
 use Rattle.gerg.specs.declared.evaluate.EvaluateAnswer.the-variants as evaluated
 use Rattle.gerg.specs.Evaluate.{evaluateOf}
-use Rattle.gerg_api.specs.declared.Mixed.{Mixed}
-use Rattle.gerg_api.specs.declared.Refusal.{Refusal}
-use Rattle.gerg_api.specs.declared.Refusal.the-variants.{Nothing, Refused}
-use Rattle.gerg_api.specs.Mixed.{mixedOf}
+use Rattle.gerg_prepared.specs.declared.Mixed.{Mixed}
+use Rattle.gerg_prepared.specs.Mixed.{mixedOf, afterRows}
 
 -- 60 K, 700 K, 70e6 Pa: the published state's 50 MPa lie in it
 unfoldable pub extendedRange : Range
 extendedRange = record { «temperature_low» = bits 0x404e_0000_0000_0000; «temperature_high» = bits 0x4085_e000_0000_0000; «pressure_high» = bits 0x4190_b076_0000_0000 }
 
 -- rows 1 to 5, of which the number is kept, then what follows
-unfoldable pub afterRows : Refusal → EvaluateAnswer → EvaluateAnswer
-afterRows Nothing later = later
-afterRows (Refused number value) later = evaluated.Refused number
-
 unfoldable pub stateFrom : Tables → Mixed → Float → Float → EvaluateAnswer
-stateFrom t m temperature rho = afterRows (m .refusal) (evaluateOf t (m .model) extendedRange temperature rho)
+stateFrom t m temperature rho = afterRows (λ number value. evaluated.Refused number) (m .refusal) (evaluateOf t (m .model) extendedRange temperature rho)
 
 unfoldable pub stateOf : List ℕ → List ℕ → List Float → Float → Float → EvaluateAnswer
 stateOf bytes list fractions temperature rho = stateFrom (tablesOf bytes) (mixedOf bytes list fractions) temperature rho

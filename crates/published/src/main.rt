@@ -5,12 +5,12 @@ use gerg::GergState;
 use gerg::Range;
 use gerg::evaluate;
 use gerg::evaluate::EvaluateAnswer;
-use gerg_api::Mixed;
-use gerg_api::Refusal;
-use gerg_api::rows;
+use gerg_prepared::Mixed;
+use gerg_prepared::Refusal;
+use gerg_prepared::rows;
 ghost use mathlib.Core.Path.{_≡_};
 ghost use Rattle.gerg_tables.specs.Tables.{tables, Shaped};
-ghost use Rattle.gerg_api.specs.declared.Refusal.the-variants as refusals;
+ghost use Rattle.gerg_prepared.specs.declared.Refusal.the-variants as refusals;
 ghost use Rattle.published.specs.Published as is;
 
 // 60 to 700 K, pressures to 70 MPa.

@@ -1,16 +1,20 @@
 // Reads a coefficient file from standard input and prints one line: the refusal's number and value, or 0 and the file's length.
-fn report(file: &[u8]) {
-    let read = gerg_tables::read_tables(file);
-    let answer = read.answer;
-    io::print_decimal(1, answer.number());
-    io::write_all(1, b" ");
-    io::print_decimal(1, answer.value());
-    io::write_all(1, b"\n");
+mod line;
+
+ghost use Prim.Native.Nat.{_≤_};
+
+// The bytes of the line.
+fn print(text: [u8; 42], length: usize)
+    requires { ⌜ length ≤ 42 ⌝ }
+{
+    io::write_all(1, &text[..length]);
 }
 
-// One byte more than the longest file: a file that is longer is refused at or before 28,377, so what lies beyond is not read.
+// One byte more than the longest file: what lies beyond changes no answer (`gerg_tables: Cut.cut-answer`), so it is not read.
 fn main() {
     let mut buffer = [0u8; 28378];
     let n = io::read_full(0, &mut buffer);
-    report(&buffer[..n]);
+    let mut text = [0u8; 42];
+    let length = line::line(&buffer[..n], &mut text);
+    print(text, length);
 }

@@ -1,99 +1,50 @@
--- Every trial of the equation is fair, and the sign of its residual is that of its pressure less the target. Assumes nothing.
-use mathlib.Core.Path.{_≡_, refl, sym, ap, _∙_, subst}
-use Prim.Native.Nat.{ℕ, _<_}
+-- Every trial of the equation is fair, and its residual is that of a computed pressure. Assumes nothing.
+use mathlib.Core.Path.{_≡_, refl}
+use Prim.Native.Nat.{ℕ, _≤_, _<_}
 use native.Mathlib.Omega.{arith}
-use mathlib.Core.Bool.{Bool, true, false, not}
-use lib.Dec.{T, lit≤}
-use lib.Ieee.{Float, le, isNan}
-use lib.Ieee.Scale.{finite}
+use lib.Dec.{T}
+use lib.Ieee.{Float}
 use lib.Ieee.Positive.{positive}
-use Rattle.numerics.specs.Double.{+0, pick}
 use Rattle.gerg_tables.specs.declared.Tables.{Tables}
 use Rattle.gerg_model.specs.declared.GergModel.{GergModel}
 use Rattle.gerg.specs.declared.Range.{Range}
 use Rattle.gerg.specs.declared.helmholtz.HelmholtzAnswer.{HelmholtzAnswer}
-use Rattle.gerg.specs.declared.evaluate.EvaluateAnswer.{EvaluateAnswer}
-use Rattle.gerg.specs.declared.GergState.{GergState}
-use Rattle.gerg.specs.declared.derivatives.GergDerivatives.{GergDerivatives}
-use Rattle.gerg.specs.Derivatives.{zeroDerivatives}
-use Rattle.gerg.specs.Helmholtz.{helmholtzOf, checkedOf, allFinite, withinRange, componentsOf, deltaOf, tauOf}
-use Rattle.gerg.specs.Evaluate.{evaluateOf, admittedAnswer, admittedOf, unstable, pressureOut, pressureOf, finiteState, stateOf}
-use Rattle.gerg_density.specs.Trial.{trialPressure, trialStiffness, sampleOf}
+use Rattle.gerg.specs.Helmholtz.{helmholtzOf}
+use Rattle.gerg.specs.HelmholtzNumbers as helmholtz
+use Rattle.gerg.proofs.Laws.Numbers.{helmholtz-at-most-9}
+use Rattle.gerg_search.proofs.Laws.Differ.{differ}
+use Rattle.gerg_density.specs.Trial.{trialPressure, trialStiffness}
 use Rattle.gerg_density.specs.Density.{trialOf, verdictOf}
-use Rattle.gerg_density.specs.Verdicts.{Fair}
-use Rattle.gerg_density.specs.declared.Sample.{Sample}
-use Rattle.gerg_density.specs.declared.Sample.the-variants.{Residual, Stopped}
-use Rattle.gerg_density.proofs.Laws.Signs.{Signs, sample-stopped, sample-residual}
+use Rattle.gerg_density.specs.Promised.{Computed}
+use Rattle.gerg_search.specs.declared.Sample.the-variants.{Residual, Stopped}
+use Rattle.gerg_search.proofs.Laws.Verdicts.{Fair}
+use Rattle.gerg_density.proofs.Laws.Trial.{Scaled, sample-stopped, sample-residual}
 
-abbrev numberOf : HelmholtzAnswer → ℕ
-numberOf (HelmholtzAnswer.Derivatives a) = 0
-numberOf (HelmholtzAnswer.Refused n) = n
+-- the residual f at x comes of the computed pressure there
+pub record Worked (t : Tables) (m : GergModel) (range : Range) (temperature target x f : Float) : Type 0 where
+  pub pressure : Float
+  pub computed : Computed t m range temperature x pressure
+  pub scaled : Scaled target pressure f
 
--- rows 6 to 9
-helmholtz-number : (t : Tables) (m : GergModel) (range : Range) (temperature rho : Float) (n : ℕ) → helmholtzOf t m range temperature rho ≡ HelmholtzAnswer.Refused n → n < 16
-unfolding helmholtzOf checkedOf
-helmholtz-number t m range temperature rho n e =
-    go (not (finite rho)) (le rho +0) (not (withinRange range temperature rho)) (componentsOf t (m .fractions) temperature rho (deltaOf m rho) (tauOf m temperature) zeroDerivatives) e
-  where
-    low : (k : ℕ) → k < 16 → k ≡ n → n < 16
-    low k h q = subst (λ (j : ℕ). j < 16) q h
-
-    last : (a : GergDerivatives) (b : Bool) → pick b (HelmholtzAnswer.Derivatives a) (HelmholtzAnswer.Refused 9) ≡ HelmholtzAnswer.Refused n → n < 16
-    last a true e = low 0 (lit≤ tt) (ap numberOf e)
-    last a false e = low 9 (lit≤ tt) (ap numberOf e)
-
-    go : (p q r : Bool) (a : GergDerivatives) → pick p (HelmholtzAnswer.Refused 6) (pick q (HelmholtzAnswer.Refused 7) (pick r (HelmholtzAnswer.Refused 8) (checkedOf a))) ≡ HelmholtzAnswer.Refused n → n < 16
-    go true q r a e = low 6 (lit≤ tt) (ap numberOf e)
-    go false true r a e = low 7 (lit≤ tt) (ap numberOf e)
-    go false false true a e = low 8 (lit≤ tt) (ap numberOf e)
-    go false false false a e = last a (allFinite a) e
-
--- rows 6 to 12
-abbrev numberAt : EvaluateAnswer → ℕ
-numberAt (EvaluateAnswer.State s) = 0
-numberAt (EvaluateAnswer.Refused n) = n
-
-pub evaluate-number : (t : Tables) (m : GergModel) (range : Range) (temperature rho : Float) (n : ℕ) → evaluateOf t m range temperature rho ≡ EvaluateAnswer.Refused n → n < 16
-unfolding evaluateOf admittedAnswer admittedOf
-evaluate-number t m range temperature rho n e = go (helmholtzOf t m range temperature rho) refl e
-  where
-    low : (k : ℕ) → k < 16 → k ≡ n → n < 16
-    low k h q = subst (λ (j : ℕ). j < 16) q h
-
-    tests : (p q r : Bool) (s : GergState) → pick p (EvaluateAnswer.Refused 10) (pick q (EvaluateAnswer.Refused 11) (pick r (EvaluateAnswer.State s) (EvaluateAnswer.Refused 12))) ≡ EvaluateAnswer.Refused n → n < 16
-    tests true q r s e = low 10 (lit≤ tt) (ap numberAt e)
-    tests false true r s e = low 11 (lit≤ tt) (ap numberAt e)
-    tests false false true s e = low 0 (lit≤ tt) (ap numberAt e)
-    tests false false false s e = low 12 (lit≤ tt) (ap numberAt e)
-
-    go : (h : HelmholtzAnswer) → helmholtzOf t m range temperature rho ≡ h → admittedAnswer temperature rho (m .«molar_mass») (range .«pressure_high») h ≡ EvaluateAnswer.Refused n → n < 16
-    go (HelmholtzAnswer.Refused k) q e = low k (helmholtz-number t m range temperature rho k q) (ap numberAt e)
-    go (HelmholtzAnswer.Derivatives a) q e =
-        tests (unstable a temperature) (pressureOut (range .«pressure_high») (pressureOf a temperature rho)) (finiteState (stateOf a temperature rho (m .«molar_mass»))) (stateOf a temperature rho (m .«molar_mass»)) e
-
-abbrev stoppedBy : Sample → ℕ
-stoppedBy (Residual f d) = 0
-stoppedBy (Stopped n) = n
-
-abbrev kind : Sample → ℕ
-kind (Residual f d) = 0
-kind (Stopped n) = 1
-
-clash : {A : Type 0} → _≡_ {A = ℕ} 1 0 → A
-clash e = absurd (no e)
-  where
-    no : _≡_ {A = ℕ} 1 0 → ⊥
-    no e = omega arith
-
-module _ (t : Tables) (m : GergModel) (range : Range) (temperature target : Float) (p : T (positive target)) where
-  pub fair : Fair (verdictOf t m range temperature target)
+module _ (t : Tables) (m : GergModel) (range : Range) (temperature target : Float) where
+  -- a trial refuses by a number below 16: rows 6 to 9, 12 and 15
+  pub verdict-stopped : (x : Float) (n : ℕ) → verdictOf t m range temperature target x ≡ Stopped n → n < 16
   unfolding verdictOf trialOf
-  fair = record { number = λ x f d e. number x f d (helmholtzOf t m range temperature x) e; before = λ x n e. before x n (helmholtzOf t m range temperature x) refl e }
+  verdict-stopped x n e = go (helmholtzOf t m range temperature x) (helmholtz-at-most-9 t m range temperature x) e
     where
-      number : (x f d : Float) (h : HelmholtzAnswer) → trialOf temperature target x h ≡ Residual f d → isNan f ≡ false
-      number x f d (HelmholtzAnswer.Derivatives a) e = sample-residual target (trialPressure temperature x (a .«ar_d»)) (trialStiffness temperature (a .«ar_d») (a .«ar_dd»)) f d p e .number
-      number x f d (HelmholtzAnswer.Refused n) e = clash (ap kind e)
+      go : (h : HelmholtzAnswer) → helmholtz.numberOf h ≤ 9 → trialOf temperature target x h ≡ Stopped n → n < 16
+      go (HelmholtzAnswer.Derivatives a) l e = sample-stopped target (trialPressure temperature x (a .«ar_d»)) (trialStiffness temperature (a .«ar_d») (a .«ar_dd»)) n e
+      go (HelmholtzAnswer.Refused k) l e = let q : k ≡ n = cc in omega arith
 
-      before : (x : Float) (n : ℕ) (h : HelmholtzAnswer) → helmholtzOf t m range temperature x ≡ h → trialOf temperature target x h ≡ Stopped n → n < 16
-      before x n (HelmholtzAnswer.Derivatives a) q e = sample-stopped target (trialPressure temperature x (a .«ar_d»)) (trialStiffness temperature (a .«ar_d») (a .«ar_dd»)) n e
-      before x n (HelmholtzAnswer.Refused k) q e = subst (λ (j : ℕ). j < 16) (ap stoppedBy e) (helmholtz-number t m range temperature x k q)
+  pub worked : T (positive target) → (x f d : Float) → verdictOf t m range temperature target x ≡ Residual f d → Worked t m range temperature target x f
+  unfolding verdictOf trialOf
+  worked p x f d e = go (helmholtzOf t m range temperature x) refl e
+    where
+      go : (h : HelmholtzAnswer) → helmholtzOf t m range temperature x ≡ h → trialOf temperature target x h ≡ Residual f d → Worked t m range temperature target x f
+      go (HelmholtzAnswer.Derivatives a) q e =
+          let w = trialPressure temperature x (a .«ar_d») in
+          record { pressure = w; computed = record { derivatives = a; answered = q; formula = refl }; scaled = sample-residual target w (trialStiffness temperature (a .«ar_d») (a .«ar_dd»)) f d p e }
+      go (HelmholtzAnswer.Refused n) q e = differ (cc)
+
+  pub fair : T (positive target) → Fair (verdictOf t m range temperature target)
+  fair p = record { number = λ x f d e. worked p x f d e .scaled .signs .number; before = verdict-stopped }

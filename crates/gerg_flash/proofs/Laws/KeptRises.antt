@@ -2,7 +2,7 @@
 use mathlib.Core.Path.{_≡_, refl, ap, _∙_}
 use mathlib.Core.Bool.{Bool, true, false, _&&_}
 use mathlib.Core.List.{List, [], _∷_, _++_}
-use Prim.Native.Nat.{ℕ, zero, suc, _+_, _-_, _≤_, _<_}
+use Prim.Native.Nat.{ℕ, zero, suc, _≤_, _<_}
 use native.Mathlib.Nat.{le-refl}
 use native.Mathlib.Omega.{arith}
 use lib.Dec.{eqb}
@@ -10,11 +10,11 @@ use lib.Ieee.{Float, nan, lt}
 use lib.ListN.{length, getD}
 use Rattle.numerics.specs.Double.{pick}
 use Rattle.numerics.specs.Iterate.{iter}
-use Rattle.gerg_density.proofs.Laws.Gap.{count}
+use Rattle.numerics.specs.Spacing.{count}
 use Rattle.gerg_flash.specs.Roots.{Outcome, found, stopped, Kept, stoppedBy, joinedBy, limitOf, keepStep, keptOf}
-use Rattle.gerg_flash.specs.RootList.{rootList}
-use Rattle.gerg_flash.specs.Scan.{Scanned}
-use Rattle.gerg_flash.proofs.Laws.Rising.{Rising, rising-none, rising-more, last, last-more}
+use Rattle.gerg_flash.proofs.Laws.RootList.{rootList}
+use Rattle.gerg_scan.specs.Scan.{Scanned}
+use Rattle.gerg_grid.proofs.Laws.Rising.{Rising, rising-none, rising-more, last, last-more}
 
 -- what a root gives has its density first
 abbrev pub Headed : (Float → Outcome) → Type 0

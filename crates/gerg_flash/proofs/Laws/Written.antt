@@ -6,7 +6,7 @@ use mathlib.Core.List.{List, [], _∷_}
 use Prim.Native.Nat.{ℕ, zero, suc, _+_, _*_, _≤_, _<_}
 use native.Mathlib.Nat.{eq-or-lt-of-le, mul-le-mul-right, le-of-suc-le-suc}
 use native.Mathlib.Omega.{arith}
-use borrow.Author.Tests.{ltb-false}
+use borrow.Author.Tests.{eqb-false, ltb-false}
 use lib.Dec.{eqb, ltb}
 use lib.Ieee.{Float, nan}
 use lib.ListN.{length, getD}
@@ -17,8 +17,8 @@ use Rattle.gerg_tables.specs.declared.Tables.{Tables}
 use Rattle.gerg_model.specs.declared.GergModel.{GergModel}
 use Rattle.gerg.specs.declared.Range.{Range}
 use Rattle.gerg_flash.specs.Roots.{Kept, needed, numberAt, rootWritten, rootsWritten, answerOf, beyondFive, withinEnvelope, searchedOf, rootsOf}
-use Rattle.gerg_flash.specs.RootsLaws.{length-root, length-roots}
-use Rattle.gerg_flash.specs.RootList.{rootList}
+use Rattle.gerg_flash.proofs.Laws.Answering.{length-root, length-roots}
+use Rattle.gerg_flash.proofs.Laws.RootList.{rootList}
 use Rattle.gerg_flash.specs.declared.RootsAnswer.the-variants.{Roots, Refused}
 
 -- ---- one root's numbers
@@ -41,6 +41,21 @@ stays-below h c (suc m) at l i k = getD-set-other (rootWritten h c m at l) (at +
   where
     apart : (at i m : ℕ) → i < at → i ≡ at + m → ⊥
     apart at i m k e = omega arith
+
+-- and what stands behind it
+stays-above : (h c : List Float) (m at : ℕ) (l : List Float) (i : ℕ) → at + m ≤ i → getD (rootWritten h c m at l) i nan ≡ getD l i nan
+unfolding rootWritten iter
+stays-above h c zero at l i k = refl
+stays-above h c (suc m) at l i k = getD-set-other (rootWritten h c m at l) (at + m) i (numberAt h c m) nan (λ e. apart at i m k e) ∙ stays-above h c m at l i (omega arith)
+  where
+    apart : (at i m : ℕ) → at + suc m ≤ i → i ≡ at + m → ⊥
+    apart at i m k e = omega arith
+
+-- "doubles of a lent answer past those needed stay as lent, for roots too"
+pub roots-past : (hs cs : List (List Float)) (m n : ℕ) (l : List Float) (i : ℕ) → n * m ≤ i → getD (rootsWritten hs cs m n l) i nan ≡ getD l i nan
+unfolding rootsWritten iter
+roots-past hs cs m zero l i k = refl
+roots-past hs cs m (suc n) l i k = stays-above (getD hs n []) (getD cs n []) m (n * m) (rootsWritten hs cs m n l) i (omega arith) ∙ roots-past hs cs m n l i (omega arith)
 
 -- ---- number j of root k stands at k × m + j
 pub roots-at : (hs cs : List (List Float)) (m n : ℕ) (l : List Float) (k j : ℕ) → k < n → j < m → n * m ≤ length l → getD (rootsWritten hs cs m n l) (k * m + j) nan ≡ numberAt (getD hs k []) (getD cs k []) j
@@ -66,6 +81,7 @@ list-length (h ∷ hs) = ap suc (list-length hs)
 -- ---- what an accepted call tells
 pub record Accepted (m : GergModel) (lent n : ℕ) (k : Kept) : Type 0 where
   pub count : length (k .heads) ≡ n
+  pub some : 0 < length (k .heads)
   pub room : length (k .heads) * (4 + m .components) ≤ lent
 
 unlike : {A : Type 0} (number value n : ℕ) → Refused number value ≡ Roots n → A
@@ -76,13 +92,16 @@ unlike number value n e = absurd (clash number value n e)
 
 answer-accepted : (m : GergModel) (lent n : ℕ) (k : Kept) → answerOf m lent k ≡ Roots n → Accepted m lent n k
 unfolding answerOf
-answer-accepted m lent n k = go (eqb (k .refused) 0) (eqb (length (k .heads)) 0) (ltb lent (needed m k)) refl
+answer-accepted m lent n k = go (eqb (k .refused) 0) (eqb (length (k .heads)) 0) (ltb lent (needed m k)) refl refl
   where
-    go : (a b c : Bool) → ltb lent (needed m k) ≡ c → pick a (pick b (Refused 23 0) (pick c (Refused 24 (needed m k)) (Roots (length (k .heads))))) (Refused (k .refused) 0) ≡ Roots n → Accepted m lent n k
-    go false b c l e = unlike (k .refused) 0 n e
-    go true true c l e = unlike 23 0 n e
-    go true false true l e = unlike 24 (needed m k) n e
-    go true false false l e = record { count = cc; room = ltb-false lent (needed m k) l }
+    above : (n : ℕ) → (n ≡ 0 → ⊥) → 0 < n
+    above n h = omega arith
+
+    go : (a b c : Bool) → eqb (length (k .heads)) 0 ≡ b → ltb lent (needed m k) ≡ c → pick a (pick b (Refused 23 0) (pick c (Refused 24 (needed m k)) (Roots (length (k .heads))))) (Refused (k .refused) 0) ≡ Roots n → Accepted m lent n k
+    go false b c z l e = unlike (k .refused) 0 n e
+    go true true c z l e = unlike 23 0 n e
+    go true false true z l e = unlike 24 (needed m k) n e
+    go true false false z l e = record { count = cc; some = above (length (k .heads)) (eqb-false (length (k .heads)) 0 z); room = ltb-false lent (needed m k) l }
 
 pub roots-accepted : (t : Tables) (m : GergModel) (gradients : List (List Float)) (range : Range) (temperature target : Float) (lent n : ℕ) → rootsOf t m gradients range temperature target lent ≡ Roots n → Accepted m lent n (searchedOf t m gradients range temperature target)
 unfolding rootsOf

@@ -1,7 +1,7 @@
 -- A search makes at most 56 trials: 53 that halve the width, and 3 that each take a gap between doubles from what is left. Assumes nothing.
-use mathlib.Core.Path.{_≡_, refl, sym, subst}
+use mathlib.Core.Path.{_≡_, refl, subst}
 use mathlib.Core.Bool.{Bool, true, false}
-use mathlib.Core.List.{List, []}
+use mathlib.Core.List.{[]}
 use Prim.Native.Nat.{ℕ, zero, suc, _+_, _-_, _*_, _^_, _≤_, _<_, zero-le, suc-le-suc}
 use native.Mathlib.Nat.{le-trans, pow-suc}
 use native.Mathlib.Omega.{arith}
@@ -9,7 +9,7 @@ use lib.Ieee.{Float}
 use lib.ListN.{length}
 use Rattle.numerics.specs.Frac.{big}
 use Rattle.numerics.specs.Double.{pick}
-use Rattle.gerg_density.proofs.Laws.Gap.{unit, unit-pos, count}
+use Rattle.numerics.specs.Spacing.{unit, unit-pos, count}
 use Rattle.gerg_ph.specs.Halvings.{middleOf, betweenOf, onEnd, narrowedOf, onward, trialsFrom}
 use Rattle.gerg_ph.specs.declared.Interval.{Interval}
 use Rattle.gerg_ph.specs.declared.Verdict.{Verdict}

@@ -1,24 +1,25 @@
 -- One halving of an interval between 230 and 350 K, as whole numbers of the smallest double: a middle that is no end leaves half of the width, nearly, and less of it
 -- by one gap between doubles at least. Assumes nothing.
-use mathlib.Core.Path.{_≡_, refl, sym, ap, _∙_, subst}
+use mathlib.Core.Path.{_≡_, sym, ap, _∙_, subst}
 use mathlib.Core.Logic.{inl, inr}
-use mathlib.Core.Bool.{Bool, true, false, Bool·beq, _&&_, _||_}
-use Prim.Native.Nat.{ℕ, zero, suc, _+_, _-_, _*_, _^_, _≤_, _<_}
-use native.Mathlib.Nat.{eq-or-lt-of-le, mul-one}
+use mathlib.Core.Bool.{Bool, true, false, not, _&&_, _||_}
+use Prim.Native.Nat.{ℕ, suc, _+_, _-_, _*_, _≤_, _<_}
+use native.Mathlib.Nat.{eq-or-lt-of-le}
 use native.Mathlib.Omega.{arith}
-use borrow.Author.Tests.{eq-eqb}
-use lib.IntN.{pos}
-use lib.Dec.{T, eqb, lit≤}
-use lib.Ieee.{Float, nan, inf, fin, binary64, up, down, fits, ofBits, lt, le, eq}
-use lib.Ieee.Bits.{ofBits-fits}
+use lib.Dec.{T}
+use lib.Ieee.{Float, lt, eq}
 use lib.Ieee.Fits.{and-l, and-r}
-use lib.Ieee.Positive.{positive, between}
+use lib.Ieee.Positive.{positive}
+use Rattle.numerics.specs.Double.{_⊖_, _⊗_, +0, pick}
+use Rattle.numerics.specs.Finite.{eq-self}
 use Rattle.numerics.specs.Frac.{big, small, small-suc}
-use Rattle.numerics.specs.Double.{_⊕_, _⊖_, _⊗_, bits, +0, pick}
-use Rattle.gerg_density.proofs.Laws.Gap.{unit, unit-pos, count, counted, gap, Good, lt→count, le→count, count→lt, same}
-use Rattle.gerg_density.proofs.Laws.Rounded.{Near, Ranged, rough}
-use Rattle.gerg_density.proofs.Laws.Shrink.{width-near, half-near, middle-good, middle-near, middle-from, middle-to}
-use Rattle.gerg_ph.specs.Halvings.{half, middleOf, betweenOf, onEnd, narrowedOf}
+use Rattle.numerics.specs.Middle.{half}
+use Rattle.numerics.specs.MiddleLaws.{width-near, half-near, middle-good, middle-near, middle-from, middle-to}
+use Rattle.numerics.specs.Order.{less-numbers, positive-above}
+use Rattle.numerics.specs.Spacing.{unit, count, gap, Good, lt→count, count→lt, same}
+use Rattle.numerics.specs.SpacingRounded.{OneRounding, Ranged, rough}
+use Rattle.numerics.specs.Tests.{holds, is-true, clash, or-left, or-right, both-true}
+use Rattle.gerg_ph.specs.Halvings.{middleOf, betweenOf, onEnd, narrowedOf}
 use Rattle.gerg_ph.specs.declared.Interval.{Interval}
 
 -- ---- the middle l + A of l and l + A + C, m being half the width w, which are rounded; s + 1 is 2 ^ 53
@@ -91,33 +92,14 @@ ranged : (lo hi : Float) → Within lo hi → Ranged lo hi
 ranged lo hi w = record { low = w .low; high = w .high; rises = w .rises; least = omega (arith, w .least); most = omega (arith, w .most) }
 
 -- ---- the middle is an end or lies between the ends
-level-same : (s : Bool) (a : ℕ) → (eqb a a && (Bool·beq s s || eqb a 0)) ≡ true
-level-same s a = let e : eqb a a ≡ true = eq-eqb a a refl in rw e (go s)
-  where
-    go : (s : Bool) → (Bool·beq s s || eqb a 0) ≡ true
-    go true = refl
-    go false = refl
-
-equals-itself : (x : Float) → T (positive x) → eq x x ≡ true
-unfolding eq
-equals-itself nan p = absurd p
-equals-itself (inf s) p = absurd p
-equals-itself (fin s m e) p = level-same s (m * up e * down e)
-
-or-right : (a b : Bool) → b ≡ true → (a || b) ≡ true
-or-right true b e = refl
-or-right false b e = e
-
-or-left : (a b : Bool) → a ≡ true → (a || b) ≡ true
-or-left true b e = refl
-or-left false b e = absurd (subst T (sym e) tt)
+equals-itself : (x : Float) → T (positive x) → T (eq x x)
+equals-itself x p = holds (eq x x) (eq-self x ∙ ap not (less-numbers +0 x (positive-above x p) .1))
 
 module _ (b : Interval) (w : Within (b .lo) (b .hi)) where
   r : Ranged (b .lo) (b .hi)
   r = ranged (b .lo) (b .hi) w
 
   pub middle-is-good : Good (middleOf b)
-  unfolding middleOf
   middle-is-good = middle-good (b .lo) (b .hi) r
 
   -- strictly between, by the test
@@ -129,41 +111,22 @@ module _ (b : Interval) (w : Within (b .lo) (b .hi)) where
   unfolding betweenOf
   inside e =
       let x = middleOf b in
-      let t : T (lt (b .lo) x && lt x (b .hi)) = subst T (sym e) tt in
+      let t : T (lt (b .lo) x && lt x (b .hi)) = holds (lt (b .lo) x && lt x (b .hi)) e in
       record {
         over = lt→count (b .lo) x (w .low) middle-is-good (and-l (lt (b .lo) x) (lt x (b .hi)) t);
         under = lt→count x (b .hi) middle-is-good (w .high) (and-r (lt (b .lo) x) (lt x (b .hi)) t);
       }
 
-  is-true : (q : Bool) → T q → q ≡ true
-  is-true true t = refl
-  is-true false t = absurd t
-
-  both-true : (p q : Bool) → T p → T q → (p && q) ≡ true
-  both-true true q s t = is-true q t
-  both-true false q s t = absurd s
-
-  from : count (b .lo) ≤ count (middleOf b)
-  unfolding middleOf
-  from = middle-from (b .lo) (b .hi) r
-
-  to : count (middleOf b) ≤ count (b .hi)
-  unfolding middleOf
-  to = middle-to (b .lo) (b .hi) r
-
   -- else it is an end
   pub outside : betweenOf b (middleOf b) ≡ false → onEnd b (middleOf b) ≡ true
   unfolding betweenOf onEnd
-  outside e = elim (eq-or-lt-of-le from) [
-    | inl i ↦ or-left (eq (middleOf b) (b .lo)) (eq (middleOf b) (b .hi)) (rw (same (middleOf b) (b .lo) middle-is-good (w .low) (sym i)) (equals-itself (b .lo) (w .low .above)))
-    | inr o ↦ elim (eq-or-lt-of-le to) [
-      | inl i ↦ or-right (eq (middleOf b) (b .lo)) (eq (middleOf b) (b .hi)) (rw (same (middleOf b) (b .hi) middle-is-good (w .high) i) (equals-itself (b .hi) (w .high .above)))
-      | inr u ↦ absurd (clash (both-true (lt (b .lo) (middleOf b)) (lt (middleOf b) (b .hi)) (count→lt (b .lo) (middleOf b) (w .low) middle-is-good o) (count→lt (middleOf b) (b .hi) middle-is-good (w .high) u)) e)
+  outside e = let x = middleOf b in elim (eq-or-lt-of-le (middle-from (b .lo) (b .hi) r)) [
+    | inl i ↦ is-true (eq x (b .lo) || eq x (b .hi)) (or-left (eq x (b .lo)) (eq x (b .hi)) (rw (same x (b .lo) middle-is-good (w .low) (sym i)) (equals-itself (b .lo) (w .low .above))))
+    | inr o ↦ elim (eq-or-lt-of-le (middle-to (b .lo) (b .hi) r)) [
+      | inl i ↦ is-true (eq x (b .lo) || eq x (b .hi)) (or-right (eq x (b .lo)) (eq x (b .hi)) (rw (same x (b .hi) middle-is-good (w .high) i) (equals-itself (b .hi) (w .high .above))))
+      | inr u ↦ clash (holds (lt (b .lo) x && lt x (b .hi)) (both-true (lt (b .lo) x) (lt x (b .hi)) (count→lt (b .lo) x (w .low) middle-is-good o) (count→lt x (b .hi) middle-is-good (w .high) u))) e
     ]
   ]
-    where
-      clash : {q : Bool} → q ≡ true → q ≡ false → ⊥
-      clash {q} s t = subst T (sym s ∙ t) tt
 
 -- what a trial makes of the interval b
 pub record Halved (b c : Interval) : Type 0 where
@@ -187,14 +150,13 @@ module _ (b : Interval) (w : Within (b .lo) (b .hi)) (i : Inside b w) where
   pub wide : 460 * unit ≤ width b * big
   wide = omega (arith, both .0, both .1, parts)
 
-  near : Near (count (middleOf b)) (count (b .lo) + count (half ⊗ (b .hi ⊖ b .lo)))
-  unfolding middleOf
+  near : OneRounding (count (middleOf b)) (count (b .lo) + count (half ⊗ (b .hi ⊖ b .lo)))
   near = middle-near (b .lo) (b .hi) (ranged (b .lo) (b .hi) w)
 
-  near-width : Near (count (b .hi ⊖ b .lo)) (count (b .hi) - count (b .lo))
+  near-width : OneRounding (count (b .hi ⊖ b .lo)) (count (b .hi) - count (b .lo))
   near-width = width-near (b .lo) (b .hi) (ranged (b .lo) (b .hi) w)
 
-  near-half : Near (2 * count (half ⊗ (b .hi ⊖ b .lo))) (1 * count (b .hi ⊖ b .lo))
+  near-half : OneRounding (2 * count (half ⊗ (b .hi ⊖ b .lo))) (1 * count (b .hi ⊖ b .lo))
   near-half = half-near (b .lo) (b .hi) (ranged (b .lo) (b .hi) w)
 
   width-bound : count (b .hi ⊖ b .lo) ≤ 121 * unit
@@ -228,36 +190,3 @@ module _ (b : Interval) (w : Within (b .lo) (b .hi)) (i : Inside b w) where
       go : (q : Bool) → Halved b (pick q (record { lo = middleOf b; hi = b .hi }) (record { lo = b .lo; hi = middleOf b }))
       go true = upper
       go false = lower
-
--- ---- the ends of row 21
-low-end-is : bits 0x406c_c000_0000_0000 ≡ fin false 115 (pos 1)
-unfolding ofBits
-low-end-is = refl
-
-high-end-is : bits 0x4075_e000_0000_0000 ≡ fin false 175 (pos 1)
-unfolding ofBits
-high-end-is = refl
-
-end-good : (n m : ℕ) → bits n ≡ fin false m (pos 1) → T (positive (fin false m (pos 1))) → Good (bits n)
-end-good n m e p = record { above = subst (λ (z : Float). T (positive z)) (sym e) p; held = ofBits-fits binary64 n }
-
-end-count : (n m : ℕ) → bits n ≡ fin false m (pos 1) → T (positive (fin false m (pos 1))) → count (bits n) ≡ m * 2 ^ 1 * unit
-end-count n m e p =
-    let f = subst (λ (z : Float). T (fits binary64 z)) e (ofBits-fits binary64 n) in
-    ap count e ∙ sym (counted (fin false m (pos 1)) p f ∙ mul-one (count (fin false m (pos 1))))
-
-module _ (x : Float) (f : T (fits binary64 x)) (l : T (le (bits 0x406c_c000_0000_0000) x)) (h : T (le x (bits 0x4075_e000_0000_0000))) where
-  low-good : Good (bits 0x406c_c000_0000_0000)
-  low-good = end-good 0x406c_c000_0000_0000 115 low-end-is tt
-
-  high-good : Good (bits 0x4075_e000_0000_0000)
-  high-good = end-good 0x4075_e000_0000_0000 175 high-end-is tt
-
-  pub ends-good : Good x
-  ends-good = record { above = between (bits 0x406c_c000_0000_0000) x (bits 0x4075_e000_0000_0000) (low-good .above) (high-good .above) l h; held = f }
-
-  pub at-least : 230 * unit ≤ count x
-  at-least = subst (λ (z : ℕ). z ≤ count x) (end-count 0x406c_c000_0000_0000 115 low-end-is tt) (le→count (bits 0x406c_c000_0000_0000) x low-good ends-good l)
-
-  pub at-most : count x ≤ 350 * unit
-  at-most = subst (λ (z : ℕ). count x ≤ z) (end-count 0x4075_e000_0000_0000 175 high-end-is tt) (le→count x (bits 0x4075_e000_0000_0000) ends-good high-good h)

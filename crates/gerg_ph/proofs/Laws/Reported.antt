@@ -1,65 +1,98 @@
--- What row 26 reports: where no temperature is refused by that number, the length of the list of trials. Assumes nothing.
-use mathlib.Core.Path.{_≡_, sym, ap}
+-- What an answer reports: a number of at most 26; with row 26 the length of the list of trials, with every other number 0. Assumes nothing.
+use mathlib.Core.Path.{_≡_, refl}
 use mathlib.Core.Bool.{Bool, true, false, not, _||_}
 use mathlib.Core.List.{List, []}
-use Prim.Native.Nat.{ℕ, zero, suc, _≤_}
+use Prim.Native.Nat.{ℕ, zero, suc, _≤_, zero-le}
+use native.Mathlib.Nat.{le-trans, le-refl}
 use native.Mathlib.Omega.{arith}
+use lib.Dec.{lit≤}
 use lib.Ieee.{Float, lt}
 use lib.ListN.{length}
 use Rattle.numerics.specs.Double.{+0, pick}
-use Rattle.gerg_ph.specs.Halvings.{middleOf, onEnd, narrowedOf, onward, trialsFrom, answeredOf, halvingsFrom, halvingsOf, encloses, endsOf, searchOf, trialsOf}
+use Rattle.gerg_tables.specs.declared.Tables.{Tables}
+use Rattle.gerg_model.specs.declared.GergModel.{GergModel}
+use Rattle.gerg.specs.declared.Range.{Range}
+use Rattle.gerg_ph.specs.Checks.{saturationRefused}
+use Rattle.gerg_ph.specs.Halvings.{middleOf, onEnd, narrowedOf, onward, trialsFrom, numbered, answeredOf, halvingsFrom, halvingsOf, encloses, endsOf, searchOf, trialsOf}
+use Rattle.gerg_ph.specs.Saturation.{verdictAt, intervalOf, pureSaturationOf, saturationTrials}
+use Rattle.gerg_ph.specs.SaturationNumbers.{numberOf, valueOf}
 use Rattle.gerg_ph.specs.declared.Interval.{Interval}
+use Rattle.gerg_ph.specs.declared.PureSaturation.{PureSaturation}
 use Rattle.gerg_ph.specs.declared.Verdict.{Verdict}
 use Rattle.gerg_ph.specs.declared.Verdict.the-variants as verdict
 use Rattle.gerg_ph.specs.declared.SaturationAnswer.{SaturationAnswer}
 use Rattle.gerg_ph.specs.declared.SaturationAnswer.the-variants.{Found, NotEnclosed, Refused}
-use Rattle.gerg_ph.proofs.Laws.Numbers.{of-verdict}
+use Rattle.gerg_ph.proofs.Laws.Numbers.{refusalOf, verdict-number}
 
--- an answer's number (0 where it is no refusal), and its value
-abbrev pub numberOf : SaturationAnswer → ℕ
-numberOf (Found s) = 0
-numberOf NotEnclosed = 0
-numberOf (Refused n value) = n
+-- `trials` is the length of the list
+pub record Reports (a : SaturationAnswer) (trials : ℕ) : Type 0 where
+  pub number : numberOf a ≤ 26
+  pub row-26 : numberOf a ≡ 26 → valueOf a ≡ trials
+  pub others : (numberOf a ≡ 26 → ⊥) → valueOf a ≡ 0
+  pub most : valueOf a ≤ trials
 
-abbrev valueOf : SaturationAnswer → ℕ
-valueOf (Found s) = 0
-valueOf NotEnclosed = 0
-valueOf (Refused n value) = value
+module _ (trials : ℕ) where
+  unlike : (n : ℕ) → n ≤ 25 → n ≡ 26 → ⊥
+  unlike n h e = omega arith
 
-pub unlike : {A : Type 0} (n : ℕ) → n ≤ 25 → n ≡ 26 → A
-unlike n h e = absurd (clash n h e)
-  where
-    clash : (n : ℕ) → n ≤ 25 → n ≡ 26 → ⊥
-    clash n h e = omega arith
+  found : (s : PureSaturation) → Reports (Found s) trials
+  found s = record { number = zero-le; row-26 = λ e. absurd (unlike 0 zero-le e); others = λ n. refl; most = zero-le }
 
-module _ (v : Float → Verdict) (few : (x : Float) → of-verdict (v x) ≤ 23) where
-  apart-reports : (trials m : ℕ) (q : Bool) (next : SaturationAnswer) → (next ≡ Refused 26 m → m ≡ trials) → pick q (Refused 26 trials) next ≡ Refused 26 m → m ≡ trials
-  apart-reports trials m true next again e = sym (ap valueOf e)
-  apart-reports trials m false next again e = again e
+  none : Reports NotEnclosed trials
+  none = record { number = zero-le; row-26 = λ e. absurd (unlike 0 zero-le e); others = λ n. refl; most = zero-le }
 
-  halvings-report : (trials n k : ℕ) (b : Interval) (m : ℕ) → halvingsFrom v trials n k b ≡ Refused 26 m → m ≡ trials
+  refused : (n : ℕ) → n ≤ 25 → Reports (Refused n 0) trials
+  refused n h = record { number = le-trans h (lit≤ tt); row-26 = λ e. absurd (unlike n h e); others = λ e. refl; most = zero-le }
+
+  ended : Reports (Refused 26 trials) trials
+  ended = record { number = lit≤ tt; row-26 = λ e. refl; others = λ n. absurd (n refl); most = le-refl trials }
+
+  either : (q : Bool) (a : SaturationAnswer) → Reports a trials → Reports (pick q (Refused 26 trials) a) trials
+  either true a r = ended
+  either false a r = r
+
+-- no temperature is refused by row 24 or later
+module _ (v : Float → Verdict) (few : (x : Float) → refusalOf (v x) ≤ 23) where
+  early : (trials n : ℕ) → n ≤ 23 → Reports (Refused n 0) trials
+  early trials n h = refused trials n (le-trans h (lit≤ tt))
+
+  halvings-report : (trials n k : ℕ) (b : Interval) → Reports (halvingsFrom v trials n k b) trials
   unfolding halvingsFrom answeredOf onward
-  halvings-report trials zero k b m e = sym (ap valueOf e)
-  halvings-report trials (suc n) k b m e = go (v (middleOf b)) (few (middleOf b)) (λ c f. halvings-report trials n (suc k) c m f) e
+  halvings-report trials zero k b = ended trials
+  halvings-report trials (suc n) k b = go (v (middleOf b)) (few (middleOf b)) (λ c. halvings-report trials n (suc k) c)
     where
-      go : (w : Verdict) → of-verdict w ≤ 23 → ((c : Interval) → halvingsFrom v trials n (suc k) c ≡ Refused 26 m → m ≡ trials) → answeredOf (suc k) w (onward b (middleOf b) w (λ c. halvingsFrom v trials n (suc k) c) (Refused 26 trials)) ≡ Refused 26 m → m ≡ trials
-      go (verdict.Accepted s) p again e = unlike 0 (omega arith) (ap numberOf e)
-      go (verdict.Apart d) p again e = apart-reports trials m (onEnd b (middleOf b)) (halvingsFrom v trials n (suc k) (narrowedOf b (middleOf b) d)) (again (narrowedOf b (middleOf b) d)) e
-      go (verdict.Refused j) p again e = unlike j (omega (arith, p)) (ap numberOf e)
+      go :
+          (w : Verdict) → refusalOf w ≤ 23 → ((c : Interval) → Reports (halvingsFrom v trials n (suc k) c) trials) →
+          Reports (answeredOf (suc k) w (onward b (middleOf b) w (λ c. halvingsFrom v trials n (suc k) c) (Refused 26 trials))) trials
+      go (verdict.Accepted s) p again = found trials (numbered (suc k) s)
+      go (verdict.Apart d) p again = either trials (onEnd b (middleOf b)) (halvingsFrom v trials n (suc k) (narrowedOf b (middleOf b) d)) (again (narrowedOf b (middleOf b) d))
+      go (verdict.Refused j) p again = early trials j p
 
-  pub search-reports : (limit : ℕ) (b : Interval) (m : ℕ) → searchOf v limit b ≡ Refused 26 m → m ≡ length (trialsOf v limit b)
+  search-reports : (limit : ℕ) (b : Interval) → Reports (searchOf v limit b) (length (trialsOf v limit b))
   unfolding searchOf trialsOf endsOf encloses halvingsOf
-  search-reports limit b m = go (v (b .lo)) (v (b .hi)) (few (b .lo)) (few (b .hi))
+  search-reports limit b = go (v (b .lo)) (v (b .hi)) (few (b .lo)) (few (b .hi))
     where
-      inner : (q : Bool) → pick q NotEnclosed (halvingsFrom v (length (trialsFrom v limit b)) limit 0 b) ≡ Refused 26 m → m ≡ length (pick (not q) (trialsFrom v limit b) [])
-      inner true e = unlike 0 (omega arith) (ap numberOf e)
-      inner false e = halvings-report (length (trialsFrom v limit b)) limit 0 b m e
+      inner : (q : Bool) → Reports (pick q NotEnclosed (halvingsFrom v (length (trialsFrom v limit b)) limit 0 b)) (length (pick (not q) (trialsFrom v limit b) []))
+      inner true = none 0
+      inner false = halvings-report (length (trialsFrom v limit b)) limit 0 b
 
-      go : (a c : Verdict) → of-verdict a ≤ 23 → of-verdict c ≤ 23 → endsOf a c (halvingsFrom v (length (trialsFrom v limit b)) limit 0 b) ≡ Refused 26 m → m ≡ length (pick (encloses a c) (trialsFrom v limit b) [])
-      go (verdict.Refused n) c p q e = unlike n (omega (arith, p)) (ap numberOf e)
-      go (verdict.Accepted s) (verdict.Refused n) p q e = unlike n (omega (arith, q)) (ap numberOf e)
-      go (verdict.Accepted s) (verdict.Accepted u) p q e = unlike 0 (omega arith) (ap numberOf e)
-      go (verdict.Accepted s) (verdict.Apart right) p q e = unlike 0 (omega arith) (ap numberOf e)
-      go (verdict.Apart left) (verdict.Refused n) p q e = unlike n (omega (arith, q)) (ap numberOf e)
-      go (verdict.Apart left) (verdict.Accepted u) p q e = unlike 0 (omega arith) (ap numberOf e)
-      go (verdict.Apart left) (verdict.Apart right) p q e = inner (lt +0 left || lt right +0) e
+      go :
+          (a c : Verdict) → refusalOf a ≤ 23 → refusalOf c ≤ 23 →
+          Reports (endsOf a c (halvingsFrom v (length (trialsFrom v limit b)) limit 0 b)) (length (pick (encloses a c) (trialsFrom v limit b) []))
+      go (verdict.Refused n) c p q = early 0 n p
+      go (verdict.Accepted s) (verdict.Refused n) p q = early 0 n q
+      go (verdict.Accepted s) (verdict.Accepted u) p q = found 0 s
+      go (verdict.Accepted s) (verdict.Apart right) p q = found 0 s
+      go (verdict.Apart left) (verdict.Refused n) p q = early 0 n q
+      go (verdict.Apart left) (verdict.Accepted u) p q = found 0 u
+      go (verdict.Apart left) (verdict.Apart right) p q = inner (lt +0 left || lt right +0)
+
+pub reports :
+    (t : Tables) (m : GergModel) (gradients : List (List Float)) (range : Range) (pressure lo hi : Float) (limit : ℕ) →
+    Reports (pureSaturationOf t m gradients range pressure lo hi limit) (length (saturationTrials t m gradients range pressure lo hi limit))
+unfolding pureSaturationOf saturationTrials
+reports t m gradients range pressure lo hi limit = go (saturationRefused m lo hi)
+  where
+    go : (q : Bool) → Reports (pick q (Refused 25 0) (searchOf (verdictAt t m gradients range pressure) limit (intervalOf lo hi))) (length (pick q [] (trialsOf (verdictAt t m gradients range pressure) limit (intervalOf lo hi))))
+    go true = refused 0 25 (lit≤ tt)
+    go false = search-reports (verdictAt t m gradients range pressure) (λ x. verdict-number t m gradients range pressure x) limit (intervalOf lo hi)

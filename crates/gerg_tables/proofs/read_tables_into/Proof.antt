@@ -1,5 +1,6 @@
-use Rattle.gerg_tables.proofs.Cases.{malformed, well-formed}
-use Rattle.gerg_tables.proofs.Whole.{stored-is}
+use mathlib.Core.Path.{sym, _∙_}
+use Rattle.gerg_tables.proofs.Cases.{malformed, well-formed, loaded-is}
+use Rattle.gerg_file.proofs.Laws.Laid.{laid-out}
 use borrow.Author.Needs.{needs}
 use Rattle.gerg_tables.proofs.read_tables_into.Statement.{statement}
 use Rattle.gerg_tables.proofs.read_tables_into.Tie as tie
@@ -14,7 +15,8 @@ enum-known-layout : tie.Need-enum-known-layout
 enum-known-layout c = search needs
 
 put-tables-requires : tie.Need-put-tables-requires
-put-tables-requires c κs = search needs
+put-tables-requires c κs =
+    (laid-out _ _ (sym (c .before .before .before .before .before .read-layout .ensures) ∙ c .before .before .before .layout .given .1), c .before .before .before .before .before .before .before .pre)
 
 fault-requires : tie.Need-fault-requires
 fault-requires c κs = search needs
@@ -27,9 +29,8 @@ returns c = rw (c .before .before .before .before .before .pre .0, c .before .be
 
 returns-2 : tie.Need-returns-2
 returns-2 c =
-    let zeros = c .before .before .before .before .before .before .before .before .before .before .before .before .pre in
     let stored = c .before .before .before .before .put-tables .ensures in
-    well-formed _ (c .before .before .before .before .before .before .before .before .before .before .read-layout .ensures) (c .before .before .before .before .before .before .before .before .layout .given .1) (stored-is _ _ (zeros .0) (zeros .1) (stored .0) (stored .1)) (c .before .fault .ensures) (c .judge .ensures)
+    well-formed _ (c .before .before .before .before .before .before .before .before .before .before .read-layout .ensures) (c .before .before .before .before .before .before .before .before .layout .given .1) (loaded-is _ _ (stored .0) (stored .1 .0)) (c .before .fault .ensures) (c .judge .ensures)
 
 pub read-tables-into-spec : {M : Type 1} → statement M
 read-tables-into-spec =

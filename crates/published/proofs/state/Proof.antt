@@ -1,5 +1,5 @@
 -- `published::state` meets its contract. Assumes nothing.
-use Rattle.gerg_api.proofs.Laws.{call-ready, call-tables, call-mixed}
+use Rattle.gerg_prepared.proofs.Laws.{call-ready, call-tables, call-mixed}
 use mathlib.Core.Path.{_∙_}
 use Rattle.published.specs.Published.{stateOf}
 use borrow.Author.Needs.{needs}

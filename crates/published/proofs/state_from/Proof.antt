@@ -1,6 +1,7 @@
 -- `published::state_from` meets its contract. Assumes nothing.
-use Rattle.published.proofs.Laws.{after-nothing}
-use Rattle.published.specs.Published.{stateFrom, afterRows}
+use Rattle.gerg_prepared.proofs.Laws.{after-nothing}
+use Rattle.published.specs.Published.{stateFrom}
+use Rattle.gerg_prepared.specs.Mixed.{afterRows}
 use mathlib.Core.Path.{sym, _∙_}
 use borrow.Author.Needs.{needs}
 use Rattle.published.proofs.state_from.Statement.{statement}
@@ -20,7 +21,7 @@ enum-known-refusal c = search needs
 
 returns : tie.Need-returns
 unfolding stateFrom
-returns c = (rw (c .before .extended-range .ensures) at (c .evaluate .ensures)) ∙ sym (after-nothing _ _ (c .before .before .enum-told .given .1))
+returns c = (rw (c .before .extended-range .ensures) at (c .evaluate .ensures)) ∙ sym (after-nothing _ _ _ (c .before .before .enum-told .given .1))
 
 returns-2 : tie.Need-returns-2
 unfolding stateFrom afterRows

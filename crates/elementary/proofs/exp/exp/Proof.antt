@@ -1,31 +1,21 @@
 -- `elementary::exp::exp` meets its contract: each way out is the one that the same tests choose in the definition.
-use mathlib.Core.Path.{_≡_, refl}
-use lib.Ieee.{nan, inf, binary64, div, ofBits}
-use mathlib.Core.Bool.{false}
+use mathlib.Core.Path.{sym, _∙_}
+use Rattle.numerics.specs.Literals.{zero-over-zero, one-over-zero}
 use Rattle.elementary.specs.Exp.{expOf}
-use Rattle.elementary.specs.ExpTests.{in-range}
+use Rattle.elementary.proofs.Laws.{exp-above, exp-below}
+use Rattle.elementary.proofs.ExpTests.{in-range}
 use Rattle.elementary.proofs.exp.exp.Statement.{statement}
 use Rattle.elementary.proofs.exp.exp.Tie as tie
-
-zero-over-zero : div binary64 (ofBits binary64 0) (ofBits binary64 0) ≡ nan
-unfolding div ofBits
-zero-over-zero = refl
-
-one-over-zero : div binary64 (ofBits binary64 0x3ff0_0000_0000_0000) (ofBits binary64 0) ≡ inf false
-unfolding div ofBits
-one-over-zero = refl
 
 returns : tie.Need-returns
 unfolding expOf
 returns c = rw (c .if1 .taken) zero-over-zero
 
 returns-2 : tie.Need-returns-2
-unfolding expOf
-returns-2 c = rw (c .before .if1 .left, c .if2 .taken) one-over-zero
+returns-2 c = one-over-zero ∙ sym (exp-above (c .before .before .args .x) (c .if2 .taken))
 
 returns-3 : tie.Need-returns-3
-unfolding expOf
-returns-3 c = rw (c .before .before .if1 .left, c .before .if2 .left, c .if3 .taken)
+returns-3 c = sym (exp-below (c .before .before .before .args .x) (c .if3 .taken))
 
 returns-4 : tie.Need-returns-4
 unfolding expOf

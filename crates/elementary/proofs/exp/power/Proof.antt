@@ -8,7 +8,7 @@ use lib.Ieee.{binary64, nanBits}
 use lib.Ieee.Bits.{nanBits-above}
 use borrow.Author.Tests.{le-ltb}
 use borrow.Author.Needs.{needs}
-use Rattle.elementary.specs.Exp.{powerOf}
+use Rattle.elementary.specs.Exp.{scaleOf}
 use Rattle.elementary.proofs.exp.power.Statement.{statement}
 use Rattle.elementary.proofs.exp.power.Tie as tie
 
@@ -26,7 +26,7 @@ float-from-bits-result : tie.Need-float-from-bits-result
 float-from-bits-result c = number _ (omega arith)
 
 returns : tie.Need-returns
-unfolding powerOf
+unfolding scaleOf
 returns c = refl
 
 pub power-spec : {M : Type 1} → statement M

@@ -1,9 +1,9 @@
 -- `elementary::exp::within` meets its contract: the count of steps is a number, and in the range that the power of two asks for.
-use Prim.Native.Nat.{ℕ, _≤_, _<_, _/_}
 use native.Mathlib.Omega.{arith}
 use borrow.Author.Needs.{needs}
 use Rattle.elementary.specs.Exp.{countedOf, stepsOf, withinOf}
-use Rattle.elementary.specs.ExpSteps.{counted-number, steps-reach}
+use Rattle.elementary.proofs.ExpConstants.{powers}
+use Rattle.elementary.proofs.ExpSteps.{counted-number, steps-reach}
 use Rattle.elementary.proofs.exp.within.Statement.{statement}
 use Rattle.elementary.proofs.exp.within.Tie as tie
 
@@ -20,15 +20,13 @@ remainder-requires c κs = search needs
 polynomial-requires : tie.Need-polynomial-requires
 polynomial-requires c κs = search needs
 
-field : (u : ℕ) → 66430 ≤ u → u ≤ 195710 → (1025 < u / 64) × (u / 64 < 3072)
-field u h k = (omega arith, omega arith)
-
 power-requires : tie.Need-power-requires
 unfolding countedOf stepsOf
 power-requires c κs =
     let s = c .before .before .before in
     let t = steps-reach (s .args .x) (s .pre) in
-    field (stepsOf (countedOf (s .args .x))) (t .some) (t .few)
+    let p = powers (stepsOf (countedOf (s .args .x))) (t .some) (t .few) in
+    (omega arith, omega arith)
 
 returns : tie.Need-returns
 unfolding withinOf countedOf stepsOf

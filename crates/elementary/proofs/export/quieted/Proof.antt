@@ -1,8 +1,8 @@
 -- `elementary::export::quieted` meets its contract: a value that differs from itself is `nan`, and so is the quotient of the zeros. Assumes nothing.
 use borrow.Author.Needs.{needs}
 use mathlib.Core.Path.{sym, _∙_}
-use Rattle.elementary.specs.LnPatterns.{zero-over-zero}
-use Rattle.elementary.proofs.Nan.{differs}
+use Rattle.numerics.specs.Literals.{zero-over-zero}
+use Rattle.numerics.specs.Nan.{differs}
 use Rattle.elementary.proofs.export.quieted.Statement.{statement}
 use Rattle.elementary.proofs.export.quieted.Tie as tie
 

@@ -1,16 +1,16 @@
 -- `elementary::hyperbolic::tanh` meets its contract: the tests on each way, and the equations of its calls. Assumes nothing.
+use mathlib.Core.Path.{sym}
 use borrow.Author.Needs.{needs}
 use Rattle.elementary.specs.Hyperbolic.{sinhOf, coshOf, tanhOf}
+use Rattle.elementary.proofs.Laws.{tanh-above, tanh-below}
 use Rattle.elementary.proofs.hyperbolic.tanh.Statement.{statement}
 use Rattle.elementary.proofs.hyperbolic.tanh.Tie as tie
 
 returns : tie.Need-returns
-unfolding tanhOf
-returns c = rw (c .if1 .taken)
+returns c = sym (tanh-above (c .before .args .v) (c .if1 .taken))
 
 returns-2 : tie.Need-returns-2
-unfolding tanhOf
-returns-2 c = rw (c .before .if1 .left, c .if2 .taken)
+returns-2 c = sym (tanh-below (c .before .before .args .v) (c .if2 .taken))
 
 exp-requires : tie.Need-exp-requires
 exp-requires c κs = search needs

@@ -1,9 +1,9 @@
--- `elementary::power::magnitude` meets its contract: the steps of each way are a law of `proofs/Signed.antt`. Assumes nothing.
+-- `elementary::power::magnitude` meets its contract: the steps of each way are a law of `proofs/SignedIntegers.antt`. Assumes nothing.
 use native.Mathlib.Omega.{arith}
 use native.Mathlib.Numerals.{add-one}
 use mathlib.Core.Path.{sym, ap, _∙_}
 use lib.IntN.{natAbs}
-use Rattle.elementary.proofs.Signed.{positive, Steps, steps}
+use Rattle.elementary.proofs.SignedIntegers.{positive, Steps, steps}
 use borrow.Author.Needs.{needs}
 use Rattle.elementary.proofs.power.magnitude.Statement.{statement}
 use Rattle.elementary.proofs.power.magnitude.Tie as tie

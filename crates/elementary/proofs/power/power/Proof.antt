@@ -4,7 +4,8 @@ use borrow.Author.Tests.{eq-eqb, ne-eqb}
 use mathlib.Core.Logic.{⊎-elim}
 use mathlib.Core.Path.{_≡_, refl, sym, _∙_}
 use Prim.Native.Nat.{_<_, _^_}
-use Rattle.elementary.specs.Power.{powerFrom, powerOf, power-ends, power-turn}
+use Rattle.elementary.specs.Power.{powerFrom, powerOf}
+use Rattle.elementary.proofs.PowerSteps.{power-ends, power-turn}
 use Rattle.elementary.proofs.power.power.Statement.{statement}
 use Rattle.elementary.proofs.power.power.Tie as tie
 

@@ -1,6 +1,6 @@
 -- `elementary::power::powers_below_8` meets its contract. Assumes nothing.
 use mathlib.Core.Path.{sym}
-use Rattle.elementary.specs.Power.{powers-below-8}
+use Rattle.elementary.proofs.PowerSteps.{powers-below-8}
 use Rattle.elementary.proofs.power.powers_below_8.Statement.{statement}
 use Rattle.elementary.proofs.power.powers_below_8.Tie as tie
 

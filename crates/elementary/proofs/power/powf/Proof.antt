@@ -1,7 +1,7 @@
 -- `elementary::power::powf` meets its contract, by the logarithm that it hands on. Assumes nothing.
 use borrow.Author.Needs.{needs}
 use mathlib.Core.Path.{_∙_}
-use Rattle.elementary.specs.Power.{powf-from-ln}
+use Rattle.elementary.proofs.Laws.{powf-from-ln}
 use Rattle.elementary.proofs.power.powf.Statement.{statement}
 use Rattle.elementary.proofs.power.powf.Tie as tie
 

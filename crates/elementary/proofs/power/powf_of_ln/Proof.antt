@@ -1,13 +1,14 @@
 -- `elementary::power::powf_of_ln` meets its contract: the tests on each way. Assumes nothing.
+use mathlib.Core.Path.{sym}
 use borrow.Author.Needs.{needs}
-use Rattle.elementary.specs.LnPatterns.{zero-over-zero}
+use Rattle.numerics.specs.Literals.{zero-over-zero}
 use Rattle.elementary.specs.Power.{powfFrom}
+use Rattle.elementary.proofs.Laws.{powf-from-zero}
 use Rattle.elementary.proofs.power.powf_of_ln.Statement.{statement}
 use Rattle.elementary.proofs.power.powf_of_ln.Tie as tie
 
 returns : tie.Need-returns
-unfolding powfFrom
-returns c = rw (c .if1 .taken)
+returns c = sym (powf-from-zero (c .before .args .x) (c .before .args .l) (c .before .args .t) (c .if1 .taken))
 
 exp-requires : tie.Need-exp-requires
 exp-requires c κs = search needs

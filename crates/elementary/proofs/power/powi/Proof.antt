@@ -1,5 +1,5 @@
--- `elementary::power::powi` meets its contract: each way is a law of `proofs/Signed.antt`. Assumes nothing.
-use Rattle.elementary.proofs.Signed.{powi-negative, powi-positive}
+-- `elementary::power::powi` meets its contract: each way is a law of `proofs/SignedIntegers.antt`. Assumes nothing.
+use Rattle.elementary.proofs.SignedIntegers.{powi-negative, powi-positive}
 use borrow.Author.Needs.{needs}
 use Rattle.elementary.proofs.power.powi.Statement.{statement}
 use Rattle.elementary.proofs.power.powi.Tie as tie

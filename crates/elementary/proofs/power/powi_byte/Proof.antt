@@ -1,8 +1,8 @@
--- `elementary::power::powi_byte` meets its contract: each way is a law of `proofs/Signed.antt`. Assumes nothing.
+-- `elementary::power::powi_byte` meets its contract: each way is a law of `proofs/SignedIntegers.antt`. Assumes nothing.
 use borrow.Author.Needs.{needs}
 use mathlib.Core.Path.{_∙_}
 use native.Mathlib.Omega.{arith}
-use Rattle.elementary.proofs.Signed.{byte-small, byte-large}
+use Rattle.elementary.proofs.SignedIntegers.{byte-small, byte-large}
 use Rattle.elementary.proofs.power.powi_byte.Statement.{statement}
 use Rattle.elementary.proofs.power.powi_byte.Tie as tie
 

@@ -1,6 +1,6 @@
 -- `elementary::power::signed_double` meets its contract: below 128 the byte itself, else minus what it is below 256. Assumes nothing.
 use borrow.Author.Needs.{needs}
-use Rattle.elementary.proofs.Signed.{signed-small, double-large}
+use Rattle.elementary.proofs.SignedIntegers.{signed-small, double-large}
 use native.Mathlib.Omega.{arith}
 use lib.Ieee.{binary64}
 use Rattle.elementary.proofs.power.signed_double.Statement.{statement}

@@ -15,7 +15,9 @@ speed-of-sound-requires c κs = search needs
 
 returns : tie.Need-returns
 unfolding stateFrom
-returns c = rw (c .speed-of-sound .ensures, c .before .entropy .ensures, c .before .before .compressibility .ensures)
+returns c =
+    let s = c .before .before .before .before in
+    rw (s .speed-of-sound .ensures, s .before .entropy .ensures, s .before .before .compressibility .ensures)
 
 pub state-from-spec : {M : Type 1} → statement M
 state-from-spec =

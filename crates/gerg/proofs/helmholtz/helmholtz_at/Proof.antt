@@ -1,7 +1,7 @@
 -- `gerg::helmholtz::helmholtz_at` meets its contract: each way rewrites the tests that led there. Assumes nothing.
 use mathlib.Core.Path.{_∙_}
 use Rattle.gerg.specs.Helmholtz.{helmholtzOf}
-use Rattle.gerg.specs.IsothermReads.{isotherm-rows}
+use Rattle.gerg_isotherm.proofs.Laws.Reads.{isotherm-rows}
 use borrow.Author.Needs.{needs}
 use Rattle.gerg.proofs.helmholtz.helmholtz_at.Statement.{statement}
 use Rattle.gerg.proofs.helmholtz.helmholtz_at.Tie as tie

@@ -1,6 +1,7 @@
+-- `gerg_api::density::density` meets its contract. Assumes nothing.
 use Rattle.gerg_api.specs.Calls.{densityCall}
-use mathlib.Core.Path.{_≡_, refl, sym, ap, _∙_}
-use Rattle.gerg_api.proofs.Laws.{call-ready, call-tables, call-mixed}
+use mathlib.Core.Path.{refl, _∙_}
+use Rattle.gerg_prepared.proofs.Laws.{call-ready, call-tables, call-mixed}
 use borrow.Author.Needs.{needs}
 use Rattle.gerg_api.proofs.density.density.Statement.{statement}
 use Rattle.gerg_api.proofs.density.density.Tie as tie

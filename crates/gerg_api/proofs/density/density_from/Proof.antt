@@ -1,7 +1,8 @@
-use Rattle.gerg_api.specs.Calls.{searchedAfter}
+-- `gerg_api::density::density_from` meets its contract. Assumes nothing.
+use Rattle.gerg_api.proofs.Laws.{after-refused}
 use Rattle.gerg_api.specs.Calls.{densityFrom}
-use Rattle.gerg_api.proofs.Laws.{search-nothing}
-use mathlib.Core.Path.{_≡_, sym, ap, _∙_}
+use Rattle.gerg_prepared.proofs.Laws.{after-nothing}
+use mathlib.Core.Path.{sym, _∙_}
 use borrow.Author.Needs.{needs}
 use Rattle.gerg_api.proofs.density.density_from.Statement.{statement}
 use Rattle.gerg_api.proofs.density.density_from.Tie as tie
@@ -20,11 +21,11 @@ enum-known-refusal c = search needs
 
 returns : tie.Need-returns
 unfolding densityFrom
-returns c = (rw (c .before .normal-range .ensures) at (c .density .ensures)) ∙ sym (search-nothing _ _ (c .before .before .enum-told .given .1))
+returns c = (rw (c .before .normal-range .ensures) at (c .density .ensures)) ∙ sym (after-nothing _ _ _ (c .before .before .enum-told .given .1))
 
 returns-2 : tie.Need-returns-2
-unfolding densityFrom searchedAfter
-returns-2 c = rw (c .before .refusal .given .1)
+unfolding densityFrom
+returns-2 c = after-refused _ _ _ _ _ (c .before .refusal .given .1)
 
 pub density-from-spec : {M : Type 1} → statement M
 density-from-spec =

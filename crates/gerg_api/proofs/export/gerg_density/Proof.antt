@@ -1,5 +1,6 @@
-use mathlib.Core.Path.{_≡_, sym, ap, _∙_}
-use Rattle.gerg_api.specs.Calls.{densityCode}
+-- `gerg_api::export::gerg_density` meets its contract. Assumes nothing.
+use mathlib.Core.Path.{ap, _∙_}
+use Rattle.gerg_answers.specs.Answers.{densityCode}
 use borrow.Author.Needs.{needs}
 use Rattle.gerg_api.proofs.export.gerg_density.Statement.{statement}
 use Rattle.gerg_api.proofs.export.gerg_density.Tie as tie

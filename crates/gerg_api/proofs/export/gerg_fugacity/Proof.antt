@@ -1,6 +1,6 @@
 -- `gerg_api::export::gerg_fugacity` meets its contract. Assumes nothing.
 use mathlib.Core.Path.{ap, _∙_}
-use Rattle.gerg_api.specs.Calls.{propertiesCode}
+use Rattle.gerg_answers.specs.Answers.{propertiesCode}
 use borrow.Author.Needs.{needs}
 use Rattle.gerg_api.proofs.export.gerg_fugacity.Statement.{statement}
 use Rattle.gerg_api.proofs.export.gerg_fugacity.Tie as tie

@@ -1,6 +1,6 @@
 -- `gerg_api::export::gerg_outer_roots` meets its contract. Assumes nothing.
 use mathlib.Core.Path.{ap, _∙_}
-use Rattle.gerg_api.specs.Equilibrium.{rootsCode}
+use Rattle.gerg_answers.specs.Answers.{rootsCode}
 use borrow.Author.Needs.{needs}
 use Rattle.gerg_api.proofs.export.gerg_outer_roots.Statement.{statement}
 use Rattle.gerg_api.proofs.export.gerg_outer_roots.Tie as tie

@@ -1,5 +1,5 @@
 -- `gerg_api::export::gerg_properties` meets its contract. Assumes nothing.
-use Rattle.gerg_api.specs.Calls.{propertiesCode}
+use Rattle.gerg_answers.specs.Answers.{propertiesCode}
 use mathlib.Core.Path.{ap, _∙_}
 use borrow.Author.Needs.{needs}
 use Rattle.gerg_api.proofs.export.gerg_properties.Statement.{statement}

@@ -1,6 +1,6 @@
 -- `gerg_api::export::gerg_pure_saturation` meets its contract. Assumes nothing.
 use mathlib.Core.Path.{ap, _∙_}
-use Rattle.gerg_api.specs.Equilibrium.{saturationCode}
+use Rattle.gerg_answers.specs.Answers.{saturationCode}
 use borrow.Author.Needs.{needs}
 use Rattle.gerg_api.proofs.export.gerg_pure_saturation.Statement.{statement}
 use Rattle.gerg_api.proofs.export.gerg_pure_saturation.Tie as tie

@@ -1,6 +1,6 @@
 -- `gerg_api::fugacity::fugacity_after` meets its contract. Assumes nothing.
 use mathlib.Core.Path.{sym, _∙_}
-use Rattle.gerg_api.specs.Calls.{fugacityAfter, memoryAfter}
+use Rattle.gerg_api.specs.Calls.{fugacityAfter, memoryAfter, statedOf}
 use borrow.Author.Needs.{needs}
 use Rattle.gerg_api.proofs.fugacity.fugacity_after.Statement.{statement}
 use Rattle.gerg_api.proofs.fugacity.fugacity_after.Tie as tie
@@ -25,7 +25,7 @@ unfolding fugacityAfter memoryAfter
 returns c = let e = sym (c .before .before .before .before .before .before .before .evaluated .ensures) ∙ c .before .before .before .before .before .s .given .1 in (rw e (c .before .before .coefficients .ensures .0), rw e (c .before .before .coefficients .ensures .1))
 
 returns-2 : tie.Need-returns-2
-unfolding fugacityAfter memoryAfter
+unfolding fugacityAfter memoryAfter statedOf
 returns-2 c = let e = sym (c .before .before .before .evaluated .ensures) ∙ c .before .number .given .1 in (rw e, rw e)
 
 pub fugacity-after-spec : {M : Type 1} → statement M

@@ -1,8 +1,9 @@
 -- `gerg_api::fugacity::fugacity_from` meets its contract. Assumes nothing.
-use Rattle.gerg_api.proofs.Laws.{after-nothing, memory-nothing, passed-test}
+use Rattle.gerg_api.proofs.Laws.{passed-test, failed-test, after-refused, memory-refused}
+use Rattle.gerg_prepared.proofs.Laws.{after-nothing, memory-nothing}
 use borrow.Author.Tests.{lt-ltb, le-ltb}
 use mathlib.Core.Path.{sym, _∙_}
-use Rattle.gerg_api.specs.Calls.{fugacityFrom, memoryFrom, afterRows, memoryRows}
+use Rattle.gerg_api.specs.Calls.{fugacityFrom, memoryFrom}
 use borrow.Author.Needs.{needs}
 use Rattle.gerg_api.proofs.fugacity.fugacity_from.Statement.{statement}
 use Rattle.gerg_api.proofs.fugacity.fugacity_from.Tie as tie
@@ -11,8 +12,8 @@ enum-told : tie.Need-enum-told
 enum-told c = search needs
 
 returns : tie.Need-returns
-unfolding fugacityFrom memoryFrom afterRows memoryRows
-returns c = let e = c .before .enum-told .given .1 in let l = lt-ltb _ _ (c .if1 .taken) in (rw (e, l), rw (e, l))
+unfolding fugacityFrom memoryFrom
+returns c = let e = c .before .enum-told .given .1 in let l = lt-ltb _ _ (c .if1 .taken) in (sym (after-nothing _ _ _ e ∙ failed-test _ _ _ l), sym (memory-nothing _ _ _ e ∙ failed-test _ _ _ l))
 
 fugacity-after-requires : tie.Need-fugacity-after-requires
 fugacity-after-requires c κs = let p = c .before .before .before .before .before .pre (c .before .before .enum-told .given .1) in (p .0, p .1, c .before .if1 .left)
@@ -25,11 +26,11 @@ same-length c = search needs
 
 returns-2 : tie.Need-returns-2
 unfolding fugacityFrom memoryFrom
-returns-2 c = let e = c .before .before .before .before .before .enum-told .given .1 in let l = le-ltb _ _ (c .before .before .before .before .if1 .left) in (c .before .before .fugacity-after .ensures .0 ∙ sym (after-nothing _ _ e ∙ passed-test _ _ _ l), c .before .before .fugacity-after .ensures .1 ∙ sym (memory-nothing _ _ _ e ∙ passed-test _ _ _ l))
+returns-2 c = let e = c .before .before .before .before .before .enum-told .given .1 in let l = le-ltb _ _ (c .before .before .before .before .if1 .left) in (c .before .before .fugacity-after .ensures .0 ∙ sym (after-nothing _ _ _ e ∙ passed-test _ _ _ l), c .before .before .fugacity-after .ensures .1 ∙ sym (memory-nothing _ _ _ e ∙ passed-test _ _ _ l))
 
 returns-3 : tie.Need-returns-3
-unfolding fugacityFrom memoryFrom afterRows memoryRows
-returns-3 c = let e = c .before .refusal .given .1 in (rw e, rw e)
+unfolding fugacityFrom memoryFrom
+returns-3 c = let e = c .before .refusal .given .1 in (after-refused _ _ _ _ _ e, memory-refused _ _ _ _ _ e)
 
 pub fugacity-from-spec : {M : Type 1} → statement M
 fugacity-from-spec =

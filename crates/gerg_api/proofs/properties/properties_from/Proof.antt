@@ -1,8 +1,9 @@
 -- `gerg_api::properties::properties_from` meets its contract. Assumes nothing.
-use Rattle.gerg_api.proofs.Laws.{after-nothing}
+use Rattle.gerg_prepared.proofs.Laws.{after-nothing}
 use Rattle.gerg_api.specs.Calls.{statedOf}
 use mathlib.Core.Path.{sym, ap, _∙_}
-use Rattle.gerg_api.specs.Calls.{propertiesFrom, afterRows}
+use Rattle.gerg_api.specs.Calls.{propertiesFrom}
+use Rattle.gerg_api.proofs.Laws.{after-refused}
 use borrow.Author.Needs.{needs}
 use Rattle.gerg_api.proofs.properties.properties_from.Statement.{statement}
 use Rattle.gerg_api.proofs.properties.properties_from.Tie as tie
@@ -21,11 +22,11 @@ enum-known-refusal c = search needs
 
 returns : tie.Need-returns
 unfolding propertiesFrom
-returns c = c .stated .ensures ∙ ap statedOf (c .before .evaluated .ensures) ∙ sym (after-nothing _ _ (c .before .before .enum-told .given .1))
+returns c = c .stated .ensures ∙ ap statedOf (c .before .evaluated .ensures) ∙ sym (after-nothing _ _ _ (c .before .before .enum-told .given .1))
 
 returns-2 : tie.Need-returns-2
-unfolding propertiesFrom afterRows
-returns-2 c = rw (c .before .refusal .given .1)
+unfolding propertiesFrom
+returns-2 c = after-refused _ _ _ _ _ (c .before .refusal .given .1)
 
 pub properties-from-spec : {M : Type 1} → statement M
 properties-from-spec =

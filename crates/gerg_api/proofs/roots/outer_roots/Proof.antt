@@ -1,5 +1,5 @@
 -- `gerg_api::roots::outer_roots` meets its contract. Assumes nothing.
-use Rattle.gerg_api.proofs.Laws.{call-ready, call-tables, call-mixed}
+use Rattle.gerg_prepared.proofs.Laws.{call-ready, call-tables, call-mixed}
 use mathlib.Core.Path.{refl, _∙_}
 use Rattle.gerg_api.specs.Equilibrium.{rootsCall, rootsWritten}
 use borrow.Author.Needs.{needs}

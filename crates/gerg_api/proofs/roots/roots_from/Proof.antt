@@ -1,8 +1,8 @@
 -- `gerg_api::roots::roots_from` meets its contract. Assumes nothing.
 use mathlib.Core.Path.{sym, _∙_}
-use Rattle.gerg_api.proofs.Laws.{roots-nothing, memory-nothing}
-use Rattle.gerg_api.specs.Calls.{memoryRows}
-use Rattle.gerg_api.specs.Equilibrium.{rootsFrom, rootsMemoryFrom, rootsAfter}
+use Rattle.gerg_prepared.proofs.Laws.{after-nothing, memory-nothing}
+use Rattle.gerg_api.proofs.Laws.{after-refused, memory-refused}
+use Rattle.gerg_api.specs.Equilibrium.{rootsFrom, rootsMemoryFrom}
 use borrow.Author.Needs.{needs}
 use Rattle.gerg_api.proofs.roots.roots_from.Statement.{statement}
 use Rattle.gerg_api.proofs.roots.roots_from.Tie as tie
@@ -27,11 +27,11 @@ unfolding rootsFrom rootsMemoryFrom
 returns c =
     let e = c .before .before .before .before .before .before .enum-told .given .1 in
     let r = c .before .before .before .before .normal-range .ensures in
-    ((rw r at (c .before .before .outer-roots .ensures .0)) ∙ sym (roots-nothing _ _ e), (rw r at (c .before .before .outer-roots .ensures .1)) ∙ sym (memory-nothing _ _ _ e))
+    ((rw r at (c .before .before .outer-roots .ensures .0)) ∙ sym (after-nothing _ _ _ e), (rw r at (c .before .before .outer-roots .ensures .1)) ∙ sym (memory-nothing _ _ _ e))
 
 returns-2 : tie.Need-returns-2
-unfolding rootsFrom rootsMemoryFrom rootsAfter memoryRows
-returns-2 c = let e = c .before .refusal .given .1 in (rw e, rw e)
+unfolding rootsFrom rootsMemoryFrom
+returns-2 c = let e = c .before .refusal .given .1 in (after-refused _ _ _ _ _ e, memory-refused _ _ _ _ _ e)
 
 pub roots-from-spec : {M : Type 1} → statement M
 roots-from-spec =

@@ -1,7 +1,7 @@
 -- `gerg_api::saturation::pure_saturation` meets its contract. Assumes nothing.
 use Rattle.gerg_api.specs.Equilibrium.{saturationCall}
-use mathlib.Core.Path.{_≡_, refl, sym, ap, _∙_}
-use Rattle.gerg_api.proofs.Laws.{call-ready, call-tables, call-mixed}
+use mathlib.Core.Path.{refl, _∙_}
+use Rattle.gerg_prepared.proofs.Laws.{call-ready, call-tables, call-mixed}
 use borrow.Author.Needs.{needs}
 use Rattle.gerg_api.proofs.saturation.pure_saturation.Statement.{statement}
 use Rattle.gerg_api.proofs.saturation.pure_saturation.Tie as tie

@@ -1,7 +1,8 @@
 -- `gerg_api::saturation::saturation_from` meets its contract. Assumes nothing.
 use mathlib.Core.Path.{sym, _∙_}
-use Rattle.gerg_api.proofs.Laws.{saturation-nothing}
-use Rattle.gerg_api.specs.Equilibrium.{saturationFrom, saturationAfter}
+use Rattle.gerg_prepared.proofs.Laws.{after-nothing}
+use Rattle.gerg_api.specs.Equilibrium.{saturationFrom}
+use Rattle.gerg_api.proofs.Laws.{after-refused}
 use borrow.Author.Needs.{needs}
 use Rattle.gerg_api.proofs.saturation.saturation_from.Statement.{statement}
 use Rattle.gerg_api.proofs.saturation.saturation_from.Tie as tie
@@ -22,11 +23,11 @@ returns : tie.Need-returns
 unfolding saturationFrom
 returns c =
     let e = c .before .before .before .enum-told .given .1 in
-    (rw (c .before .normal-range .ensures) at (c .pure-saturation .ensures)) ∙ sym (saturation-nothing _ _ e)
+    (rw (c .before .normal-range .ensures) at (c .pure-saturation .ensures)) ∙ sym (after-nothing _ _ _ e)
 
 returns-2 : tie.Need-returns-2
-unfolding saturationFrom saturationAfter
-returns-2 c = rw (c .before .refusal .given .1)
+unfolding saturationFrom
+returns-2 c = after-refused _ _ _ _ _ (c .before .refusal .given .1)
 
 pub saturation-from-spec : {M : Type 1} → statement M
 saturation-from-spec =

@@ -1,5 +1,4 @@
 -- `checked` meets its contract, by cases on the state's answer. Assumes nothing.
-use mathlib.Core.Path.{_∙_}
 use Rattle.gerg_density.specs.Density.{checkedOf}
 use borrow.Author.Needs.{needs}
 use Rattle.gerg_density.proofs.density.checked.Statement.{statement}

@@ -1,8 +1,9 @@
 -- `run` meets its contract. The invariant is `Ahead`: what is left to do from here ends where the whole search ends; each need is one law of it. Assumes nothing.
+use mathlib.Core.Path.{_∙_}
 use borrow.Author.Needs.{needs}
 use Rattle.gerg_tables.specs.Tables.{tables}
 use Rattle.gerg_density.specs.Density.{verdictOf}
-use Rattle.gerg_density.proofs.Laws.Ahead.{Ahead, left, begins}
+use Rattle.gerg_search.proofs.Laws.Ahead.{Ahead, stepsLeft, begins}
 use Rattle.gerg_density.proofs.Laws.Turn.{room, fewer, again, found, failed}
 use Rattle.gerg_density.proofs.density.run.Statement.{statement}
 use Rattle.gerg_density.proofs.density.run.Tie as tie
@@ -11,7 +12,7 @@ abbrev Inv-loop : tie.InvT-loop
 Inv-loop doubles integers isotherm model range temperature target o s₀ s = Ahead o (verdictOf (tables doubles integers) model range temperature target) s
 
 abbrev μ-loop : tie.MeasureT-loop
-μ-loop doubles integers isotherm model range temperature target o s₀ s = left o s
+μ-loop doubles integers isotherm model range temperature target o s₀ s = stepsLeft o s
 
 begin-requires : tie.Need-begin-requires Inv-loop μ-loop
 begin-requires c κs = search needs
@@ -40,8 +41,11 @@ loop-again c = let p = c .before .before .before .before in again _ _ _ _ _ _ (p
 enum-known-x-2 : tie.Need-enum-known-x-2 Inv-loop μ-loop
 enum-known-x-2 c = search needs
 
+found-requires : tie.Need-found-requires Inv-loop μ-loop
+found-requires c κs = search needs
+
 returns : tie.Need-returns Inv-loop μ-loop
-returns c = let p = c .before .before .before .before in found _ _ _ _ _ _ (p .before .before .before .before .pre .2) _ (p .before .before .loop .inv) _ (p .before .verdict .ensures) _ (p .advance .ensures) (c .before .before .x2 .given .1)
+returns c = let p = c .before .before .before .before in c .found .ensures ∙ found _ _ _ _ _ _ (p .before .before .before .before .pre .2) _ (p .before .before .loop .inv) _ (p .before .verdict .ensures) _ (p .advance .ensures) (c .before .before .x2 .given .1)
 
 enum-known-number : tie.Need-enum-known-number Inv-loop μ-loop
 enum-known-number c = search needs
@@ -67,6 +71,7 @@ run-spec =
     loop-less
     loop-again
     enum-known-x-2
+    found-requires
     returns
     enum-known-number
     value-requires

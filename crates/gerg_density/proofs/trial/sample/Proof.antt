@@ -1,5 +1,8 @@
 -- `sample` meets its contract: each way rewrites the tests that led there. Assumes nothing.
-use mathlib.Core.Path.{_∙_}
+use mathlib.Core.Path.{_≡_}
+use mathlib.Core.Bool.{true}
+use lib.Ieee.{le}
+use Rattle.numerics.specs.Double.{+0}
 use Rattle.gerg_density.specs.Trial.{sampleOf}
 use borrow.Author.Needs.{needs}
 use Rattle.gerg_density.proofs.trial.sample.Statement.{statement}
@@ -15,18 +18,21 @@ returns : tie.Need-returns
 unfolding sampleOf
 returns c = rw (← c .before .before .is-finite .ensures, ← c .before .is-finite2 .ensures, c .if1 .taken)
 
-returns-2 : tie.Need-returns-2
-unfolding sampleOf
-returns-2 c = rw (← c .before .before .before .is-finite .ensures, ← c .before .before .is-finite2 .ensures, c .before .if1 .left, c .if2 .taken)
-
 scale-requires : tie.Need-scale-requires
 scale-requires c κs = search needs
 
+returns-2 : tie.Need-returns-2
+unfolding sampleOf
+returns-2 c =
+    let t = c .before .before in
+    let unstable : le (t .before .before .before .args .derivative) +0 ≡ true = c .if2 .taken in
+    rw (← t .before .before .is-finite .ensures, ← t .before .is-finite2 .ensures, t .if1 .left, unstable)
+
 returns-3 : tie.Need-returns-3
 unfolding sampleOf
-returns-3 c = let t = c .before .before in rw (c .scale .ensures, ← t .before .before .is-finite .ensures, ← t .before .is-finite2 .ensures, t .if1 .left, c .before .if2 .left)
+returns-3 c = let t = c .before .before in rw (c .before .scale .ensures, ← t .before .before .is-finite .ensures, ← t .before .is-finite2 .ensures, t .if1 .left, c .if2 .left)
 
 pub sample-spec : {M : Type 1} → statement M
 sample-spec =
     tie.close
-    (tie.spec is-finite-requires is-finite-requires-2 returns returns-2 scale-requires returns-3)
+    (tie.spec is-finite-requires is-finite-requires-2 returns scale-requires returns-2 returns-3)

@@ -1,6 +1,6 @@
 -- `gerg_flash::roots::finish` meets its contract. Assumes nothing.
 use native.Mathlib.Omega.{arith}
-use Rattle.gerg_flash.specs.RootsLaws.{length-roots, finish-refused, finish-none, finish-short, finish-roots, refused-memory, roots-memory}
+use Rattle.gerg_flash.proofs.Laws.Answering.{length-roots, finish-refused, finish-none, finish-short, finish-roots, refused-memory, roots-memory}
 use mathlib.Core.Path.{sym, ap, _∙_}
 use Prim.Native.Nat.{_+_, _≤_}
 use native.Mathlib.Nat.{mul-le-mul}

@@ -1,6 +1,6 @@
 -- `gerg_flash::roots::put_roots` meets its contract. The invariant: the roots so far are written. Assumes nothing.
 use native.Mathlib.Omega.{arith}
-use Rattle.gerg_flash.specs.RootsLaws.{length-root, rootAt, puts-turn}
+use Rattle.gerg_flash.proofs.Laws.Answering.{length-root, rootAt, puts-turn}
 use Rattle.gerg_flash.specs.Roots.{rootsWritten}
 use mathlib.Core.Path.{_≡_, refl, ap, _∙_}
 use Prim.Native.Nat.{_*_, _≤_, _-_}

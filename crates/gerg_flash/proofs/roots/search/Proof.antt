@@ -1,10 +1,13 @@
 -- `gerg_flash::roots::search` meets its contract. Assumes nothing.
 use borrow.Author.Needs.{needs}
-use mathlib.Core.Path.{refl, ap, _∙_}
+use mathlib.Core.Path.{ap, _∙_}
 use lib.ListN.{length}
 use Rattle.gerg_flash.specs.Roots.{Kept, answerOf, memoryBy}
 use Rattle.gerg_flash.proofs.roots.search.Statement.{statement}
 use Rattle.gerg_flash.proofs.roots.search.Tie as tie
+
+grid-requires : tie.Need-grid-requires
+grid-requires c κs = search needs
 
 exterior-roots-requires : tie.Need-exterior-roots-requires
 exterior-roots-requires c κs = search needs
@@ -17,10 +20,11 @@ same-length c = search needs
 
 returns : tie.Need-returns
 returns c =
-    let s = c .before .before .before .before .before .before .before .before .before .before in
+    let s = c .before .before .before .before .before .before .before .before .before .before .before .before .before .before in
     let f = c .before .before .finish .ensures in
-    let e = c .before .before .before .before .before .before .exterior-roots .ensures .is in
-    (f .0 ∙ ap (answerOf _ _) e, f .1 ∙ ap (λ (k : Kept). memoryBy (s .args .model) k (answerOf (s .args .model) (length (s .args .out .now)) k) (s .args .out .now)) e)
+    let e = c .before .before .before .before .before .before .before .exterior-roots .ensures .is in
+    (f .0 ∙ ap (answerOf _ _) e, f .1 ∙ ap (λ (k : Kept). memoryBy (s .args .sought .model) k (answerOf (s .args .sought .model) (length (s .args .out .now)) k) (s .args .out .now)) e)
 
 pub search-spec : {M : Type 1} → statement M
-search-spec = tie.close (tie.spec exterior-roots-requires finish-requires same-length returns)
+search-spec =
+    tie.close (tie.spec grid-requires exterior-roots-requires finish-requires same-length returns)

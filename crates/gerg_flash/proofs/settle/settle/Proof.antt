@@ -1,39 +1,40 @@
 -- `gerg_flash::settle::settle` meets its contract. The invariant: what is kept of the roots so far. Assumes nothing.
 use native.Mathlib.Omega.{arith}
 use borrow.Author.Needs.{needs}
-use Rattle.gerg_flash.specs.Scan.{scannedOf}
+use Rattle.gerg_scan.specs.ScanArrays.{scannedOf}
 use Rattle.gerg_tables.specs.Tables.{tables}
 use Rattle.numerics.specs.Iterate.{iter, iter-begins}
 use lib.ListN.{length}
 use Prim.Native.Nat.{_≤_, _-_}
 use mathlib.Core.List.{[]}
 use mathlib.Core.Path.{_≡_}
-use Rattle.gerg_flash.specs.RootsArrays.{stepAt, settles-turn, settles-done}
-use Rattle.gerg_flash.specs.Roots.{rootAt, keptOf, settledOf}
+use Rattle.gerg_flash.proofs.Laws.Keeping.{stepAt, settles-turn, settles-done}
+use Rattle.gerg_flash.specs.Roots.{keptOf, settledOf}
+use Rattle.gerg_flash.specs.SoughtRoots.{rootFor}
 use Rattle.gerg_flash.proofs.settle.settle.Statement.{statement}
 use Rattle.gerg_flash.proofs.settle.settle.Tie as tie
 
 abbrev Inv-loop : tie.InvT-loop
-Inv-loop densities residuals heads₀ coefficients₀ doubles integers isotherm gradients model range temperature target n first last s₀ i₀ heads coefficients s i = (i ≤ n) × (n ≤ 386) × (s .count ≤ i) × (length heads ≡ 386) × (length coefficients ≡ 386) × (settledOf s heads coefficients ≡ iter (stepAt (rootAt (tables doubles integers) model gradients range temperature) target first last densities residuals n) i (record { heads = []; coefficients = []; refused = 0 }))
+Inv-loop densities residuals heads₀ coefficients₀ doubles integers isotherm gradients sought n first last s₀ i₀ heads coefficients s i = (i ≤ n) × (n ≤ 386) × (s .count ≤ i) × (length heads ≡ 386) × (length coefficients ≡ 386) × (settledOf s heads coefficients ≡ iter (stepAt (rootFor (tables doubles integers) gradients sought) (sought .pressure) first last densities residuals n) i (record { heads = []; coefficients = []; refused = 0 }))
 
 abbrev μ-loop : tie.MeasureT-loop
-μ-loop densities residuals heads₀ coefficients₀ doubles integers isotherm gradients model range temperature target n first last s₀ i₀ heads coefficients s i = n - i
+μ-loop densities residuals heads₀ coefficients₀ doubles integers isotherm gradients sought n first last s₀ i₀ heads coefficients s i = n - i
 
 loop-holds : tie.Need-loop-holds Inv-loop μ-loop
 unfolding settledOf
 loop-holds c = (omega arith, c .pre .0, omega arith, c .pre .2, c .pre .3, iter-begins _ _)
 
-mul-keep-step : tie.Need-mul-keep-step Inv-loop μ-loop
-mul-keep-step c = search needs
+mul-density : tie.Need-mul-density Inv-loop μ-loop
+mul-density c = search needs
 
-element-copy-out-keep-step : tie.Need-element-copy-out-keep-step Inv-loop μ-loop
-element-copy-out-keep-step c = search needs
+element-copy-out-density : tie.Need-element-copy-out-density Inv-loop μ-loop
+element-copy-out-density c = search needs
 
-mul-keep-step-2 : tie.Need-mul-keep-step-2 Inv-loop μ-loop
-mul-keep-step-2 c = search needs
+mul-residual : tie.Need-mul-residual Inv-loop μ-loop
+mul-residual c = search needs
 
-element-copy-out-keep-step-2 : tie.Need-element-copy-out-keep-step-2 Inv-loop μ-loop
-element-copy-out-keep-step-2 c = search needs
+element-copy-out-residual : tie.Need-element-copy-out-residual Inv-loop μ-loop
+element-copy-out-residual c = search needs
 
 keep-step-requires : tie.Need-keep-step-requires Inv-loop μ-loop
 keep-step-requires c κs =
@@ -67,10 +68,10 @@ settle-spec =
     Inv-loop
     μ-loop
     loop-holds
-    mul-keep-step
-    element-copy-out-keep-step
-    mul-keep-step-2
-    element-copy-out-keep-step-2
+    mul-density
+    element-copy-out-density
+    mul-residual
+    element-copy-out-residual
     keep-step-requires
     add-i
     loop-less

@@ -5,7 +5,7 @@ use lib.Ieee.{nan}
 use lib.ListN.{length, getD}
 use Rattle.numerics.specs.Fill.{filled, fill-begins, fill-again, fill-done}
 use Rattle.gerg_fugacity.specs.Fugacity.{lnPhi}
-use Rattle.gerg_fugacity.specs.FugacityLaws.{lnPhis-worked}
+use Rattle.gerg_fugacity.proofs.Laws.Worked.{lnPhis-worked}
 use lib.ListN.{length}
 use Rattle.gerg_fugacity.specs.Fugacity.{lnPhiAt, lnPhis}
 use borrow.Author.Needs.{needs}

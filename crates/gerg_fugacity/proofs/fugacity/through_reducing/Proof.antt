@@ -1,6 +1,6 @@
 -- `gerg_fugacity::fugacity::through_reducing` meets its contract. Assumes nothing.
 use mathlib.Core.Path.{refl}
-use Rattle.gerg_model.specs.Mixture.{bumped}
+use Rattle.gerg_reducing.specs.Reducing.{bumped}
 use Rattle.gerg_fugacity.specs.Fugacity.{throughReducing}
 use borrow.Author.Needs.{needs}
 use Rattle.gerg_fugacity.proofs.fugacity.through_reducing.Statement.{statement}

@@ -3,7 +3,7 @@ use mathlib.Core.Path.{_≡_, sym, _∙_}
 use Prim.Native.Nat.{_≤_, _-_}
 use lib.ListN.{length}
 use Rattle.gerg_model.specs.MixtureCheck.{firstPlace, badNumber}
-use Rattle.gerg_model.specs.MixtureLaws.{first-begins, first-turn, first-here, first-none}
+use Rattle.gerg_model.proofs.Laws.First.{first-begins, first-turn, first-here, first-none}
 use native.Mathlib.Omega.{arith}
 use Rattle.gerg_model.proofs.mixture.first_bad_number.Statement.{statement}
 use Rattle.gerg_model.proofs.mixture.first_bad_number.Tie as tie

@@ -4,7 +4,7 @@ use mathlib.Core.Bool.{not}
 use Prim.Native.Nat.{_≤_, _-_}
 use Rattle.gerg_model.specs.MixtureCheck.{firstPlace}
 use Rattle.gerg_model.specs.Mixture.{nonfiniteAt}
-use Rattle.gerg_model.specs.MixtureLaws.{first-begins, first-turn, first-here, first-none}
+use Rattle.gerg_model.proofs.Laws.First.{first-begins, first-turn, first-here, first-none}
 use borrow.Author.Needs.{needs}
 use native.Mathlib.Omega.{arith}
 use Rattle.gerg_model.proofs.mixture.first_nonfinite.Statement.{statement}

@@ -5,7 +5,7 @@ use Prim.Native.Nat.{_≤_, _-_}
 use lib.Dec.{eqb}
 use lib.ListN.{length, getD}
 use Rattle.gerg_model.specs.MixtureCheck.{firstPlace}
-use Rattle.gerg_model.specs.MixtureLaws.{first-begins, first-turn, first-here, first-none}
+use Rattle.gerg_model.proofs.Laws.First.{first-begins, first-turn, first-here, first-none}
 use native.Mathlib.Omega.{arith}
 use Rattle.gerg_model.proofs.mixture.first_same.Statement.{statement}
 use Rattle.gerg_model.proofs.mixture.first_same.Tie as tie

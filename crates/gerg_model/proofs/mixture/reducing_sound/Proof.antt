@@ -1,4 +1,4 @@
--- `gerg_model::mixture::reducing_sound` meets its contract. Assumes nothing.
+-- `gerg_model::reducing_sound` meets its contract. Assumes nothing.
 use Rattle.gerg_model.specs.Mixture.{allFinite, reducingSound}
 use borrow.Author.Needs.{needs}
 use Rattle.gerg_model.proofs.mixture.reducing_sound.Statement.{statement}

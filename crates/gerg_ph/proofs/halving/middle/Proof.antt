@@ -1,11 +1,11 @@
 -- `middle` meets its contract. Assumes nothing.
 use mathlib.Core.Path.{refl}
-use Rattle.gerg_ph.specs.Halvings.{middleOf}
+use Rattle.numerics.specs.Middle.{middle}
 use Rattle.gerg_ph.proofs.halving.middle.Statement.{statement}
 use Rattle.gerg_ph.proofs.halving.middle.Tie as tie
 
 returns : tie.Need-returns
-unfolding middleOf
+unfolding middle
 returns c = refl
 
 pub middle-spec : {M : Type 1} → statement M

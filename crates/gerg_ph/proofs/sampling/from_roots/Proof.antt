@@ -1,7 +1,7 @@
 -- `from_roots` meets its contract, by the ways of a sample. Assumes nothing.
 use borrow.Author.Needs.{needs}
 use native.Mathlib.Omega.{arith}
-use Rattle.gerg_ph.specs.SamplingLaws.{from-refused, from-none, from-single, from-more}
+use Rattle.gerg_ph.proofs.Laws.Sampling.{from-refused, from-none, from-single, from-more}
 use Rattle.gerg_ph.proofs.sampling.from_roots.Statement.{statement}
 use Rattle.gerg_ph.proofs.sampling.from_roots.Tie as tie
 
@@ -18,7 +18,7 @@ sign-requires : tie.Need-sign-requires
 sign-requires c κs = search needs
 
 returns-3 : tie.Need-returns-3
-returns-3 c = from-single _ _ _ _ (c .before .before .before .before .before .before .args .s) (c .before .before .before .before .before .before .args .heads .now) (c .before .before .before .before .before .before .args .coefficients .now) (omega (arith, c .before .before .before .before .before .before .pre .0, c .before .before .before .before .before .before .pre .1)) _ (c .before .before .before .before .if1 .left) (c .before .before .before .if2 .left) (c .before .before .if3 .taken) (c .sign .ensures)
+returns-3 c = from-single _ _ _ _ (c .before .before .before .before .before .before .before .args .s) (c .before .before .before .before .before .before .before .args .heads .now) (c .before .before .before .before .before .before .before .args .coefficients .now) (omega (arith, c .before .before .before .before .before .before .before .pre .0, c .before .before .before .before .before .before .before .pre .1)) _ (c .before .before .before .before .before .if1 .left) (c .before .before .before .before .if2 .left) (c .before .before .before .if3 .taken) (c .sign .ensures)
 
 sub-last : tie.Need-sub-last
 sub-last c = search needs

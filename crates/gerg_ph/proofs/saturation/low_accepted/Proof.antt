@@ -7,6 +7,9 @@ use Rattle.gerg_ph.proofs.saturation.low_accepted.Tie as tie
 enum-known-right : tie.Need-enum-known-right
 enum-known-right c = search needs
 
+refusal-requires : tie.Need-refusal-requires
+refusal-requires c κs = search needs
+
 enum-told : tie.Need-enum-told
 enum-told c = search needs
 
@@ -15,7 +18,7 @@ enum-told-2 c = search needs
 
 returns : tie.Need-returns
 unfolding endsOf
-returns c inner = rw (c .before .right .given .1)
+returns c inner = rw (c .before .before .right .given .1) (c .refusal .ensures)
 
 returns-2 : tie.Need-returns-2
 unfolding endsOf
@@ -30,6 +33,7 @@ low-accepted-spec =
     tie.close
     (tie.spec
     enum-known-right
+    refusal-requires
     enum-told
     enum-told-2
     returns

@@ -1,7 +1,7 @@
 -- `low_apart` meets its contract, by cases of the high end. Assumes nothing.
 use borrow.Author.Needs.{needs}
 use mathlib.Core.Path.{sym, _∙_}
-use Rattle.gerg_ph.specs.HalvingsLaws.{apart-refused, apart-accepted, apart-none, apart-inner}
+use Rattle.gerg_ph.proofs.Laws.Halvings.{apart-refused, apart-accepted, apart-none, apart-inner}
 use Rattle.gerg_ph.proofs.saturation.low_apart.Statement.{statement}
 use Rattle.gerg_ph.proofs.saturation.low_apart.Tie as tie
 
@@ -10,6 +10,9 @@ verdict-at-requires c κs = search needs
 
 enum-known-v : tie.Need-enum-known-v
 enum-known-v c = search needs
+
+refusal-requires : tie.Need-refusal-requires
+refusal-requires c κs = search needs
 
 enum-known-v-2 : tie.Need-enum-known-v-2
 enum-known-v-2 c = search needs
@@ -24,7 +27,7 @@ halvings-requires : tie.Need-halvings-requires
 halvings-requires c κs = search needs
 
 returns-2 : tie.Need-returns-2
-returns-2 c = apart-refused _ _ _ _ (sym (c .before .before .before .verdict-at .ensures) ∙ c .before .v .given .1)
+returns-2 c = c .refusal .ensures ∙ apart-refused _ _ _ _ (sym (c .before .before .before .before .verdict-at .ensures) ∙ c .before .before .v .given .1)
 
 returns-3 : tie.Need-returns-3
 returns-3 c = apart-accepted _ _ _ _ (sym (c .before .before .before .verdict-at .ensures) ∙ c .before .v2 .given .1)
@@ -38,6 +41,7 @@ low-apart-spec =
     (tie.spec
     verdict-at-requires
     enum-known-v
+    refusal-requires
     enum-known-v-2
     enum-known-v-3
     returns

@@ -1,7 +1,7 @@
 -- `search` meets its contract, by cases of the low end. Assumes nothing.
 use borrow.Author.Needs.{needs}
 use mathlib.Core.Path.{sym, _∙_}
-use Rattle.gerg_ph.specs.HalvingsLaws.{low-refused, low-accepted, low-apart}
+use Rattle.gerg_ph.proofs.Laws.Halvings.{low-refused, low-accepted, low-apart}
 use Rattle.gerg_ph.proofs.saturation.search.Statement.{statement}
 use Rattle.gerg_ph.proofs.saturation.search.Tie as tie
 
@@ -10,6 +10,9 @@ verdict-at-requires c κs = search needs
 
 enum-known-v : tie.Need-enum-known-v
 enum-known-v c = search needs
+
+refusal-requires : tie.Need-refusal-requires
+refusal-requires c κs = search needs
 
 enum-known-v-2 : tie.Need-enum-known-v-2
 enum-known-v-2 c = search needs
@@ -27,7 +30,7 @@ low-apart-requires : tie.Need-low-apart-requires
 low-apart-requires c κs = search needs
 
 returns : tie.Need-returns
-returns c = low-refused _ _ _ _ (sym (c .before .before .before .verdict-at .ensures) ∙ c .before .v .given .1)
+returns c = c .refusal .ensures ∙ low-refused _ _ _ _ (sym (c .before .before .before .before .verdict-at .ensures) ∙ c .before .before .v .given .1)
 
 returns-2 : tie.Need-returns-2
 returns-2 c = low-accepted _ _ _ _ _ _ (sym (c .before .before .before .before .before .verdict-at .ensures) ∙ c .before .before .before .v2 .given .1) (c .before .verdict-at2 .ensures) (c .low-accepted .ensures)
@@ -41,6 +44,7 @@ search-spec =
     (tie.spec
     verdict-at-requires
     enum-known-v
+    refusal-requires
     enum-known-v-2
     verdict-at-requires-2
     low-accepted-requires

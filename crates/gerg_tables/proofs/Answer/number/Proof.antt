@@ -1,5 +1,4 @@
-use mathlib.Core.Path.{sym, ap}
-use Rattle.gerg_tables.specs.Answer.{number}
+-- `gerg_tables::Answer::number` meets its contract. Assumes nothing.
 use borrow.Author.Needs.{needs}
 use Rattle.gerg_tables.proofs.Answer.number.Statement.{statement}
 use Rattle.gerg_tables.proofs.Answer.number.Tie as tie
@@ -14,15 +13,12 @@ enum-told-3 : tie.Need-enum-told-3
 enum-told-3 c = search needs
 
 returns : tie.Need-returns
-unfolding number
 returns c = rw (c .enum-told .given .1)
 
 returns-2 : tie.Need-returns-2
-unfolding number
 returns-2 c = rw (c .enum-told2 .given .1)
 
 returns-3 : tie.Need-returns-3
-unfolding number
 returns-3 c = rw (c .enum-told3 .given .1)
 
 pub number-spec : {M : Type 1} → statement M

@@ -1,4 +1,4 @@
-use Rattle.gerg_tables.specs.Answer.{value}
+-- `gerg_tables::Answer::value` meets its contract. Assumes nothing.
 use borrow.Author.Needs.{needs}
 use Rattle.gerg_tables.proofs.Answer.value.Statement.{statement}
 use Rattle.gerg_tables.proofs.Answer.value.Tie as tie
@@ -16,15 +16,12 @@ cast-result : tie.Need-cast-result
 cast-result c = search needs
 
 returns : tie.Need-returns
-unfolding value
 returns c = rw (c .before .self .given .1)
 
 returns-2 : tie.Need-returns-2
-unfolding value
 returns-2 c = rw (c .before .self2 .given .1)
 
 returns-3 : tie.Need-returns-3
-unfolding value
 returns-3 c = rw (c .before .self3 .given .1)
 
 pub value-spec : {M : Type 1} → statement M

@@ -4,21 +4,17 @@ use Rattle.gerg_tables.specs.Check.{first, numberFault}
 use Rattle.gerg_tables.proofs.Some.{fault-found, no-fault-yet, no-fault, numbered-fault, no-numbered-fault}
 use native.Mathlib.Omega.{arith}
 use borrow.Author.Needs.{needs}
-use Rattle.gerg_tables.proofs.Finite.{no-number-fault}
 use Rattle.gerg_tables.proofs.check.first_nonfinite.Statement.{statement}
 use Rattle.gerg_tables.proofs.check.first_nonfinite.Tie as tie
 
 abbrev Inv-loop : tie.InvT-loop
-Inv-loop doubles q₀ q = (q ≤ 5) × (first (numberFault doubles) 5 0 ≡ first (numberFault doubles) (5 - q) q)
+Inv-loop doubles finite q₀ q = (q ≤ 5) × (first (numberFault doubles) 5 0 ≡ first (numberFault doubles) (5 - q) q)
 
 abbrev μ-loop : tie.MeasureT-loop
-μ-loop doubles q₀ q = 5 - q
-
-finite-pairs-requires : tie.Need-finite-pairs-requires Inv-loop μ-loop
-finite-pairs-requires c κs = search needs
+μ-loop doubles finite q₀ q = 5 - q
 
 returns : tie.Need-returns Inv-loop μ-loop
-returns c = sym (no-number-fault _ (sym (c .before .finite-pairs .ensures) ∙ c .if1 .taken))
+returns c = sym (c .before .pre (c .if1 .taken))
 
 loop-holds : tie.Need-loop-holds Inv-loop μ-loop
 loop-holds c = (omega arith, refl)
@@ -53,7 +49,6 @@ first-nonfinite-spec =
     (tie.spec
     Inv-loop
     μ-loop
-    finite-pairs-requires
     returns
     loop-holds
     some-nonfinite-requires

@@ -1,6 +1,6 @@
 use mathlib.Core.Path.{_∙_, sym, ap}
 use borrow.Author.Tests.{lt-ltb, le-ltb}
-use Rattle.gerg_tables.specs.Load.{departuresOf}
+use Rattle.gerg_file.specs.Counts.{departuresOf}
 use native.Mathlib.Omega.{arith}
 use borrow.Author.Needs.{needs}
 use Rattle.gerg_tables.proofs.load.departures_of.Statement.{statement}

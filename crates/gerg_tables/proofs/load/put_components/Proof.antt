@@ -1,27 +1,26 @@
-use mathlib.Core.Path.{refl}
-use Rattle.gerg_tables.specs.Load.{components}
 use borrow.Author.Needs.{needs}
+use Rattle.gerg_tables.specs.Load.{ideal, counts}
 use Rattle.gerg_tables.proofs.load.put_components.Statement.{statement}
 use Rattle.gerg_tables.proofs.load.put_components.Tie as tie
 
-put-record-doubles-requires : tie.Need-put-record-doubles-requires
-put-record-doubles-requires c κs = search needs
+put-critical-requires : tie.Need-put-critical-requires
+put-critical-requires c κs = search needs
 
-put-record-doubles-requires-2 : tie.Need-put-record-doubles-requires-2
-put-record-doubles-requires-2 c κs = search needs
+put-records-requires : tie.Need-put-records-requires
+put-records-requires c κs = search needs
 
-put-record-bytes-requires : tie.Need-put-record-bytes-requires
-put-record-bytes-requires c κs = search needs
+put-byte-records-requires : tie.Need-put-byte-records-requires
+put-byte-records-requires c κs = search needs
 
 returns : tie.Need-returns
-unfolding components
-returns c = (rw (c .before .before .put-record-doubles2 .ensures, c .before .before .before .before .put-record-doubles .ensures), c .put-record-bytes .ensures)
+unfolding ideal counts
+returns c = (rw (c .before .before .put-records .ensures .0, c .before .before .before .before .put-critical .ensures), c .put-byte-records .ensures)
 
 pub put-components-spec : {M : Type 1} → statement M
 put-components-spec =
     tie.close
     (tie.spec
-    put-record-doubles-requires
-    put-record-doubles-requires-2
-    put-record-bytes-requires
+    put-critical-requires
+    put-records-requires
+    put-byte-records-requires
     returns)

@@ -1,0 +1,2 @@
+-- The steps of sqrt, which fix the bits of each answer.
+pub mod Sqrt

@@ -1,0 +1,3 @@
+// The square root, as the nearest double.
+
+pub mod sqrt;

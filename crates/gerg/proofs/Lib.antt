@@ -1,0 +1,2 @@
+-- Laws of this crate that the crates above cite.
+pub mod Laws

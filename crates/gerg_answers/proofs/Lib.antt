@@ -1,0 +1,2 @@
+-- Laws of the codes and of what is written.
+pub mod Laws

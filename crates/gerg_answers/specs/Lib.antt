@@ -1,0 +1,3 @@
+-- What the C exports make of an answer.
+pub mod PropertiesNumbers
+pub mod Answers

@@ -1,0 +1,181 @@
+-- Demand 1, said of the public calls: the numbers and values of their refusals, and the codes of the C exports. Assumes nothing.
+use mathlib.Core.Path.{_≡_, refl, sym, ap, subst}
+use mathlib.Core.List.{List}
+use Prim.Native.Nat.{ℕ, _+_, _*_, _^_, _≤_, _<_}
+use native.Mathlib.Omega.{arith}
+use lib.Dec.{T}
+use lib.Ieee.{Float, binary64, fits}
+use lib.ListN.{length}
+use Rattle.gerg_tables.specs.declared.Tables.{Tables}
+use Rattle.gerg_tables.specs.Answer.{tablesOf}
+use Rattle.gerg.specs.Helmholtz.{normalRange}
+use Rattle.gerg.proofs.Laws.Numbers.{evaluate-at-most-12}
+use Rattle.gerg_search.specs.States.{Doubles}
+use Rattle.gerg_density.specs.DensityNumbers as ofDensity
+use Rattle.gerg_search.specs.declared.Options.{Options}
+use Rattle.gerg_density.specs.declared.DensityAnswer.the-variants as density
+use Rattle.gerg_density.proofs.Laws.Numbers.{density-at-most-19}
+use Rattle.gerg_density.proofs.Promises as search
+use Rattle.gerg_flash.specs.Roots.{rootsOf}
+use Rattle.gerg_flash.specs.RootsNumbers as ofRoots
+use Rattle.gerg_flash.specs.declared.RootsAnswer.the-variants as roots
+use Rattle.gerg_flash.proofs.Laws.Numbers.{roots-at-most-24}
+use Rattle.gerg_flash.proofs.Promises as scan
+use Rattle.gerg_ph.specs.SaturationNumbers as ofSaturation
+use Rattle.gerg_ph.specs.declared.SaturationAnswer.the-variants as saturation
+use Rattle.gerg_ph.proofs.Promises as halving
+use Rattle.gerg_prepared.specs.Mixed.{mixedOf, numberOf, valueOf}
+use Rattle.gerg_prepared.specs.declared.Mixed.{Mixed}
+use Rattle.gerg_prepared.specs.declared.Refusal.the-variants.{Nothing}
+use Rattle.gerg_prepared.proofs.Laws.{ready}
+use Rattle.gerg_prepared.proofs.Numbers.{rows-at-most-5, rows-value}
+use Rattle.gerg_answers.specs.PropertiesNumbers as ofProperties
+use Rattle.gerg_answers.specs.Answers.{propertiesCode, densityCode, rootsCode, saturationCode, rootsReported, saturationReported}
+use Rattle.gerg_answers.specs.declared.PropertiesAnswer.the-variants as answer
+use Rattle.gerg_answers.proofs.Laws as export
+use Rattle.gerg_api.specs.Calls.{evaluatedOf, propertiesOf, fugacityAnswer, densityCall, gradientRows}
+use Rattle.gerg_api.specs.Equilibrium.{rootsCall, saturationCall}
+use Rattle.gerg_api.specs.Promised.{Prepared}
+use Rattle.gerg_api.proofs.Laws.Below.{components-listed}
+use Rattle.gerg_api.proofs.Laws.After as laws
+use Rattle.gerg_api.proofs.Laws.Carried.{properties-through, fugacity-through, density-through, roots-through, saturation-through}
+
+module _ (bytes list : List ℕ) (fractions : List Float) where
+  abbrev t : Tables
+  t = tablesOf bytes
+
+  abbrev m : Mixed
+  m = mixedOf bytes list fractions
+
+  -- ---- a file, list or fractions that rows 1 to 5 refuse: every call answers their number and value, before all else
+  module _ (bad : Prepared bytes list fractions → ⊥) where
+    abbrev number : ℕ
+    number = numberOf (m .refusal)
+
+    abbrev value : ℕ
+    value = valueOf (m .refusal)
+
+    pub properties-rows : (temperature rho : Float) → propertiesOf bytes list fractions temperature rho ≡ answer.Refused number value
+    properties-rows temperature rho = properties-through bytes list fractions (λ a. a ≡ answer.Refused number value) temperature rho refl (λ e. absurd (bad (ap numberOf e)))
+
+    pub fugacity-rows : (temperature rho : Float) (out : List Float) → fugacityAnswer bytes list fractions temperature rho out ≡ answer.Refused number value
+    fugacity-rows temperature rho out = fugacity-through bytes list fractions (λ a l. a ≡ answer.Refused number value) temperature rho out refl (λ e. absurd (bad (ap numberOf e))) (λ e. absurd (bad (ap numberOf e)))
+
+    pub density-rows : (temperature target : Float) (o : Options) → densityCall bytes list fractions temperature target o ≡ density.Refused number value
+    density-rows temperature target o = density-through bytes list fractions (λ a l. a ≡ density.Refused number value) temperature target o refl (λ e. absurd (bad (ap numberOf e)))
+
+    pub roots-rows : (temperature pressure : Float) (out : List Float) → rootsCall bytes list fractions temperature pressure out ≡ roots.Refused number value
+    roots-rows temperature pressure out = roots-through bytes list fractions (λ a l. a ≡ roots.Refused number value) temperature pressure out refl (λ e. absurd (bad (ap numberOf e)))
+
+    pub saturation-rows : (pressure lo hi : Float) (limit : ℕ) → saturationCall bytes list fractions pressure lo hi limit ≡ saturation.Refused number value
+    saturation-rows pressure lo hi limit = saturation-through bytes list fractions (λ a l. a ≡ saturation.Refused number value) pressure lo hi limit refl (λ e. absurd (bad (ap numberOf e)))
+
+  few : m .refusal ≡ Nothing → m .model .components ≤ 21
+  few e = ready bytes list fractions e .known .few
+
+  early : (n : ℕ) → 5 ≤ n → numberOf (m .refusal) ≤ n
+  early n h = let k = rows-at-most-5 bytes list fractions in omega arith
+
+  -- ---- of each call: its number is one of the table up to the last row that it can meet; its value is below 2^32; so its code is number × 2^32 + value
+  module _ (temperature rho : Float) where
+    pub properties-number : ofProperties.numberOf (propertiesOf bytes list fractions temperature rho) ≤ 12
+    unfolding evaluatedOf
+    properties-number =
+        properties-through bytes list fractions (λ a. ofProperties.numberOf a ≤ 12) temperature rho (early 12 (omega arith))
+        (λ e. subst (λ (n : ℕ). n ≤ 12) (sym (laws.stated-number (evaluatedOf t m temperature rho))) (evaluate-at-most-12 t (m .model) normalRange temperature rho))
+
+    pub properties-value : ofProperties.valueOf (propertiesOf bytes list fractions temperature rho) < 2 ^ 32
+    properties-value =
+        properties-through bytes list fractions (λ a. ofProperties.valueOf a < 2 ^ 32) temperature rho (rows-value bytes list fractions)
+        (λ e. omega (arith, laws.stated-value (evaluatedOf t m temperature rho)))
+
+    pub properties-code :
+        propertiesCode (propertiesOf bytes list fractions temperature rho) ≡
+        ofProperties.numberOf (propertiesOf bytes list fractions temperature rho) * 2 ^ 32 + ofProperties.valueOf (propertiesOf bytes list fractions temperature rho)
+    properties-code = export.properties-code (propertiesOf bytes list fractions temperature rho) properties-value
+
+    module _ (out : List Float) where
+      pub fugacity-number : ofProperties.numberOf (fugacityAnswer bytes list fractions temperature rho out) ≤ 24
+      unfolding evaluatedOf
+      fugacity-number =
+          fugacity-through bytes list fractions (λ a l. ofProperties.numberOf a ≤ 24) temperature rho out (early 24 (omega arith)) (λ e. omega arith)
+          (λ e. omega (arith, laws.fugacity-number t m temperature rho (evaluatedOf t m temperature rho) (evaluate-at-most-12 t (m .model) normalRange temperature rho)))
+
+      pub fugacity-value : ofProperties.valueOf (fugacityAnswer bytes list fractions temperature rho out) < 2 ^ 32
+      fugacity-value =
+          fugacity-through bytes list fractions (λ a l. ofProperties.valueOf a < 2 ^ 32) temperature rho out (rows-value bytes list fractions)
+          (λ e. omega (arith, few e)) (λ e. omega (arith, laws.fugacity-value t m temperature rho (evaluatedOf t m temperature rho)))
+
+      -- row 24: "Needed here: as many doubles as the list is long"
+      pub fugacity-needed :
+          ofProperties.numberOf (fugacityAnswer bytes list fractions temperature rho out) ≡ 24 → ofProperties.valueOf (fugacityAnswer bytes list fractions temperature rho out) ≡ length list
+      unfolding evaluatedOf
+      fugacity-needed =
+          fugacity-through bytes list fractions (λ a l. ofProperties.numberOf a ≡ 24 → ofProperties.valueOf a ≡ length list) temperature rho out
+          (laws.late bytes list fractions 24 (omega arith)) (λ e h. components-listed bytes list fractions e)
+          (λ e h. absurd (twelve (laws.fugacity-number t m temperature rho (evaluatedOf t m temperature rho) (evaluate-at-most-12 t (m .model) normalRange temperature rho)) h))
+        where
+          twelve : {n : ℕ} → n ≤ 12 → n ≡ 24 → ⊥
+          twelve a b = omega arith
+
+      pub fugacity-code :
+          propertiesCode (fugacityAnswer bytes list fractions temperature rho out) ≡
+          ofProperties.numberOf (fugacityAnswer bytes list fractions temperature rho out) * 2 ^ 32 + ofProperties.valueOf (fugacityAnswer bytes list fractions temperature rho out)
+      fugacity-code = export.properties-code (fugacityAnswer bytes list fractions temperature rho out) fugacity-value
+
+  module _ (temperature target : Float) (o : Options) where
+    pub density-number : ofDensity.numberOf (densityCall bytes list fractions temperature target o) ≤ 19
+    density-number =
+        density-through bytes list fractions (λ a l. ofDensity.numberOf a ≤ 19) temperature target o (early 19 (omega arith)) (λ e. density-at-most-19 t (m .model) normalRange temperature target o)
+
+    pub density-value : Doubles o → ofDensity.valueOf (densityCall bytes list fractions temperature target o) < 2 ^ 32
+    density-value doubles =
+        density-through bytes list fractions (λ a l. ofDensity.valueOf a < 2 ^ 32) temperature target o (rows-value bytes list fractions)
+        (λ e. search.value-below t (m .model) normalRange temperature target o doubles)
+
+    pub density-code :
+        Doubles o → densityCode (densityCall bytes list fractions temperature target o) ≡
+        ofDensity.numberOf (densityCall bytes list fractions temperature target o) * 2 ^ 32 + ofDensity.valueOf (densityCall bytes list fractions temperature target o)
+    density-code doubles = export.density-code (densityCall bytes list fractions temperature target o) (density-value doubles)
+
+  module _ (temperature pressure : Float) (out : List Float) where
+    pub roots-number : ofRoots.numberOf (rootsCall bytes list fractions temperature pressure out) ≤ 24
+    roots-number =
+        roots-through bytes list fractions (λ a l. ofRoots.numberOf a ≤ 24) temperature pressure out (early 24 (omega arith))
+        (λ e. roots-at-most-24 t (m .model) (gradientRows m) normalRange temperature pressure (length out))
+
+    pub roots-value : ofRoots.valueOf (rootsCall bytes list fractions temperature pressure out) < 2 ^ 32
+    roots-value =
+        roots-through bytes list fractions (λ a l. ofRoots.valueOf a < 2 ^ 32) temperature pressure out (rows-value bytes list fractions)
+        (λ e. scan.value-below t (m .model) (gradientRows m) normalRange temperature pressure (length out) (few e))
+
+    -- "the answer is the number of roots", beside number 0
+    pub roots-reported : rootsReported (rootsCall bytes list fractions temperature pressure out) < 2 ^ 32
+    roots-reported =
+        roots-through bytes list fractions (λ a l. rootsReported a < 2 ^ 32) temperature pressure out (rows-value bytes list fractions)
+        (λ e. export.roots-below (rootsOf t (m .model) (gradientRows m) normalRange temperature pressure (length out))
+        (λ n k. omega (arith, laws.roots-few t (m .model) (gradientRows m) normalRange temperature pressure (length out) n k))
+        (scan.value-below t (m .model) (gradientRows m) normalRange temperature pressure (length out) (few e)))
+
+    pub roots-code :
+        rootsCode (rootsCall bytes list fractions temperature pressure out) ≡
+        ofRoots.numberOf (rootsCall bytes list fractions temperature pressure out) * 2 ^ 32 + rootsReported (rootsCall bytes list fractions temperature pressure out)
+    roots-code = export.roots-code (rootsCall bytes list fractions temperature pressure out) roots-reported
+
+  module _ (pressure lo hi : Float) (limit : ℕ) where
+    pub saturation-number : ofSaturation.numberOf (saturationCall bytes list fractions pressure lo hi limit) ≤ 26
+    saturation-number =
+        saturation-through bytes list fractions (λ a l. ofSaturation.numberOf a ≤ 26) pressure lo hi limit (early 26 (omega arith))
+        (λ e. halving.number-at-most t (m .model) (gradientRows m) normalRange pressure lo hi limit)
+
+    pub saturation-value : T (fits binary64 lo) → T (fits binary64 hi) → ofSaturation.valueOf (saturationCall bytes list fractions pressure lo hi limit) < 2 ^ 32
+    saturation-value f g =
+        saturation-through bytes list fractions (λ a l. ofSaturation.valueOf a < 2 ^ 32) pressure lo hi limit (rows-value bytes list fractions)
+        (λ e. halving.value-below t (m .model) (gradientRows m) normalRange pressure lo hi limit f g)
+
+    pub saturation-code :
+        T (fits binary64 lo) → T (fits binary64 hi) → saturationCode (saturationCall bytes list fractions pressure lo hi limit) ≡
+        ofSaturation.numberOf (saturationCall bytes list fractions pressure lo hi limit) * 2 ^ 32 + saturationReported (saturationCall bytes list fractions pressure lo hi limit)
+    saturation-code f g =
+        let a = saturationCall bytes list fractions pressure lo hi limit in
+        export.saturation-code a (export.saturation-below a (saturation-value f g))

@@ -1,0 +1,3 @@
+-- The derivatives by mole fraction.
+pub mod Composition
+pub mod Powers

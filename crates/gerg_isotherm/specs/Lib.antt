@@ -1,0 +1,3 @@
+-- What the derivatives take from the temperature alone.
+pub mod Isotherm
+pub mod Rows

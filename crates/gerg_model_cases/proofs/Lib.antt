@@ -1,0 +1,2 @@
+-- The cases of document 01, proved.
+pub mod Cases

@@ -1,0 +1,2 @@
+-- The tables of document 01's cases.
+pub mod Cases

@@ -1,0 +1,2 @@
+-- The reducing values of a mixture and their gradients.
+pub mod Reducing

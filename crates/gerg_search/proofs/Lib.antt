@@ -1,0 +1,2 @@
+-- What holds of every search, whatever the verdicts of its trials.
+pub mod Laws
