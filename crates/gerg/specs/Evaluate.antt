@@ -17,6 +17,7 @@ use Rattle.gerg.specs.declared.evaluate.Parts.{Parts}
 use Rattle.gerg.specs.declared.evaluate.EvaluateAnswer.{EvaluateAnswer}
 use Rattle.gerg.specs.declared.evaluate.EvaluateAnswer.the-variants.{State, Refused}
 use Rattle.gerg.specs.Helmholtz.{helmholtzOf}
+use Rattle.gerg.specs.HelmholtzNumbers as helmholtz
 
 -- "R = 8.314472 everywhere"
 abbrev pub gasConstant : Float
@@ -116,7 +117,7 @@ admittedOf a temperature rho mass high =
 
 unfoldable pub admittedAnswer : Float → Float → Float → Float → HelmholtzAnswer → EvaluateAnswer
 admittedAnswer temperature rho mass high (derived.Derivatives a) = admittedOf a temperature rho mass high
-admittedAnswer temperature rho mass high (derived.Refused number) = Refused number
+admittedAnswer temperature rho mass high (derived.Refused number) = Refused (helmholtz.numberOf (derived.Refused number))
 
 -- rows 6 to 12
 unfoldable pub evaluateOf : Tables → GergModel → Range → Float → Float → EvaluateAnswer

@@ -22,11 +22,13 @@ use Rattle.gerg_search.specs.declared.Outcome.{Outcome}
 use Rattle.gerg_search.specs.declared.Outcome.the-variants.{Found, Failed}
 use Rattle.gerg_density.specs.declared.DensityAnswer.{DensityAnswer}
 use Rattle.gerg_density.specs.declared.DensityAnswer.the-variants.{Accepted, Refused}
+use Rattle.gerg.specs.HelmholtzNumbers as helmholtz
+use Rattle.gerg.specs.EvaluateNumbers as evaluate
 
 -- the trial at a density: the derivatives' refusal, or what the trial makes of them
 unfoldable pub trialOf : Float → Float → Float → HelmholtzAnswer → Sample
 trialOf temperature target rho (HelmholtzAnswer.Derivatives a) = sampleOf target (trialPressure temperature rho (a .«ar_d»)) (trialStiffness temperature (a .«ar_d») (a .«ar_dd»))
-trialOf temperature target rho (HelmholtzAnswer.Refused n) = Stopped n
+trialOf temperature target rho (HelmholtzAnswer.Refused n) = Stopped (helmholtz.numberOf (HelmholtzAnswer.Refused n))
 
 unfoldable pub verdictOf : Tables → GergModel → Range → Float → Float → Float → Sample
 verdictOf t m range temperature target rho = trialOf temperature target rho (helmholtzOf t m range temperature rho)
@@ -51,7 +53,7 @@ unfoldable pub checkedOf : Float → Options → ℕ → Bracket → EvaluateAns
 checkedOf target o trials last (EvaluateAnswer.State s) =
     pick (beyondOf (o .tolerance) (residualOf target s)) (Refused 17 0)
     (Accepted (record { state = s; residual = residualOf target s; trials = trials; first = o .bracket; last = last }))
-checkedOf target o trials last (EvaluateAnswer.Refused n) = Refused n 0
+checkedOf target o trials last (EvaluateAnswer.Refused n) = Refused (evaluate.numberOf (EvaluateAnswer.Refused n)) (evaluate.valueOf (EvaluateAnswer.Refused n))
 
 unfoldable pub finishedOf : Tables → GergModel → Range → Float → Float → Options → Outcome → DensityAnswer
 finishedOf t m range temperature target o (Found x trials last) = checkedOf target o trials last (evaluateOf t m range temperature x)

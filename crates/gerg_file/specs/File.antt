@@ -45,8 +45,7 @@ abbrev pub numbered : List ℕ → ℕ → ℕ → ℕ → ℕ → ℕ → Walk
 numbered s kind size lead number at =
     passed (leb (at + size) (length s) && eqb (byte s at) kind && eqb (byte s (at + 1)) lead && eqb (byte s (at + 2)) number) size at
 
--- "all kpol + kexp terms of each component", or of each departure function: for number i as many as the two counts of its own record say. Those
--- records begin at `base`, have `stride` bytes each and their counts `counts` bytes past their start
+-- "all kpol + kexp terms of each component", or of each departure function: for number i as many as the two counts of its own record say. Those records begin at `base`, have `stride` bytes each and their counts `counts` bytes past their start
 abbrev pub group : List ℕ → ℕ → ℕ → ℕ → ℕ → ℕ → ℕ → ℕ → Walk
 group s kind size base counts stride i at = chain (numbered s kind size i) (termCount s (base + (counts + stride * (i - 1)))) 1 at
 

@@ -24,6 +24,8 @@ use Rattle.gerg_scan.specs.Sampling.{sampleOf}
 use Rattle.gerg_flash.specs.declared.Settled.{Settled}
 use Rattle.gerg_flash.specs.declared.RootsAnswer.{RootsAnswer}
 use Rattle.gerg_flash.specs.declared.RootsAnswer.the-variants.{Roots, Refused}
+use Rattle.gerg_fugacity.specs.FugacityNumbers as fugacity
+use Rattle.gerg.specs.EvaluateNumbers as evaluate
 
 -- "listed component not 1 to 5": row 20
 unfoldable pub beyondFive : GergModel → Bool
@@ -46,11 +48,11 @@ headOf rho s = rho ∷ s .«pressure_pa» ∷ s .compressibility ∷ s .«gibbs_
 
 unfoldable pub checkedOf : Tables → GergModel → List (List Float) → Float → Float → GergState → FugacityCheck → Outcome
 checkedOf t m gradients temperature rho s checked.Sound = found (headOf rho s) (fugacityMemory t m gradients s temperature rho (replicate 21 +0))
-checkedOf t m gradients temperature rho s (checked.Refused number value) = stopped number
+checkedOf t m gradients temperature rho s (checked.Refused number value) = stopped (fugacity.numberOf (checked.Refused number value))
 
 unfoldable pub stateOf : Tables → GergModel → List (List Float) → Float → Float → EvaluateAnswer → Outcome
 stateOf t m gradients temperature rho (evaluated.State s) = checkedOf t m gradients temperature rho s (fugacityOf t m gradients s temperature rho)
-stateOf t m gradients temperature rho (evaluated.Refused n) = stopped n
+stateOf t m gradients temperature rho (evaluated.Refused n) = stopped (evaluate.numberOf (evaluated.Refused n))
 
 -- the state at a root's density, then its fugacity coefficients
 unfoldable pub rootAt : Tables → GergModel → List (List Float) → Range → Float → Float → Outcome

@@ -11,6 +11,7 @@ use Rattle.gerg.specs.Evaluate.{gasConstant}
 use Rattle.gerg.specs.Helmholtz.{helmholtzOf}
 use Rattle.gerg_scan.specs.declared.Sample.{Sample}
 use Rattle.gerg_scan.specs.declared.Sample.the-variants.{Value, Refused}
+use Rattle.gerg.specs.HelmholtzNumbers as helmholtz
 
 -- rho × rt × (1 + ar_d) − target, and rt × (1 + 2 ar_d + ar_dd), rt being R × T
 unfoldable pub sampleFrom : Float → Float → Float → GergDerivatives → Sample
@@ -20,7 +21,7 @@ sampleFrom temperature target rho a =
 
 unfoldable pub sampleBy : Float → Float → Float → HelmholtzAnswer → Sample
 sampleBy temperature target rho (derived.Derivatives a) = sampleFrom temperature target rho a
-sampleBy temperature target rho (derived.Refused n) = Refused n
+sampleBy temperature target rho (derived.Refused n) = Refused (helmholtz.numberOf (derived.Refused n))
 
 unfoldable pub sampleOf : Tables → GergModel → Range → Float → Float → Float → Sample
 sampleOf t m range temperature target rho = sampleBy temperature target rho (helmholtzOf t m range temperature rho)

@@ -12,8 +12,7 @@ use Rattle.gerg_scan.specs.declared.Sample.{Sample}
 use Rattle.gerg_scan.specs.declared.Sample.the-variants.{Value, Refused}
 use Rattle.gerg_scan.specs.declared.Halving.{Halving}
 
--- What a scan knows: the last grid point and the residual there, the first and the last point with stiffness ≤ 0, the roots found
--- in order (their densities, and at the same places their residuals), and the number of the refusal that ended it, or 0.
+-- What a scan knows: the last grid point and the residual there, the first and the last point with stiffness ≤ 0, the roots found in order (their densities, and at the same places their residuals), and the number of the refusal that ended it, or 0.
 pub record Scanned : Type 0 where
   pub previous : Float
   pub left : Float

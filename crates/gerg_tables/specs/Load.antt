@@ -71,8 +71,7 @@ termDoubles s from = flat (λ i. rowOf +0 (doublesAt s) (terms s from i) (Kinds.
 unfoldable pub termIntegers : List ℕ → ℕ → List ℕ
 termIntegers s from = flat (λ i. rowOf 0 (bytesAt s) (terms s from i) (Kinds.term .exponents) 24 2) 21
 
--- the pairs i ≤ j of component i, kind 4: btij, bvij, gtij, gvij, fij; mNumb. The rows before it have 21, 20, .. pairs; its own begins with the pair i, i, so
--- that a record for j = 0 would stand i places before that: after 20 + 19 + .. records
+-- the pairs i ≤ j of component i, kind 4: btij, bvij, gtij, gvij, fij; mNumb. The rows before it have 21, 20, .. pairs; its own begins with the pair i, i, so that a record for j = 0 would stand i places before that: after 20 + 19 + .. records
 unfoldable pub pairs : ℕ → ℕ → Records
 pairs from i = record { base = from; size = Kinds.pair .size; before = sum (λ h. 20 - h) i; first = i; end = 21 }
 

@@ -1,5 +1,4 @@
--- The tables as two flat arrays, and what stands where in them, by the names of the NIST AGA8 code. Components, terms and departure functions are
--- counted from 0 here: component i is document 01's i + 1. A place that the file has no record for holds 0.
+-- The tables as two flat arrays, and what stands where in them, by the names of the NIST AGA8 code. Components, terms and departure functions are counted from 0 here: component i is document 01's i + 1. A place that the file has no record for holds 0.
 use mathlib.Core.List.{List}
 use Prim.Native.Nat.{ℕ, _+_, _*_, _≤_, _<_}
 use lib.Ieee.{Float, nan}

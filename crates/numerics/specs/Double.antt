@@ -1,5 +1,4 @@
--- Short names for the binary64 operations, so that a formula in a definition reads like the formula. Each is an `abbrev`: a
--- contract written with them is the logic's own term, and nothing has to be unfolded. The logic's `add`, `mul`, .. stay shut.
+-- Short names for the binary64 operations, so that a formula in a definition reads like the formula. Each is an `abbrev`: a contract written with them is the logic's own term, and nothing has to be unfolded. The logic's `add`, `mul`, .. stay shut.
 use mathlib.Core.Bool.{Bool, true, false, _&&_}
 use lib.Ieee.{Float, binary64, lt, le, add, sub, mul, div, ofBits}
 use Prim.Native.Nat.{ℕ}

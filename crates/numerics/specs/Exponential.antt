@@ -66,8 +66,7 @@ tail n x = record { top = 2 * size x .top ^ suc n; bot = sumBot (suc n) (x .bot)
 abbrev pub Enough : ℕ → Signed → Type 0
 Enough n x = 2 * size x .top ≤ x .bot * suc (suc n)
 
--- q lies above e ^ x: some partial sum with the tail's bound added is at most q. (Some: each such sum is at least e ^ x, and they come as near as one likes, so one that is at
--- most q shows e ^ x ≤ q, and one computation finds it. The same of `BelowExp`, from below.)
+-- q lies above e ^ x: some partial sum with the tail's bound added is at most q. (Some: each such sum is at least e ^ x, and they come as near as one likes, so one that is at most q shows e ^ x ≤ q, and one computation finds it. The same of `BelowExp`, from below.)
 abbrev pub AboveExp : Signed → Frac → Type 0
 AboveExp x q = (n : ℕ) × (Enough n x × (gain n x ⊞ tail n x ⊑ q ⊞ loss n x))
 
