@@ -1,59 +1,18 @@
 -- What the definitions give at single arguments, and what the layers above may cite of the elementary functions without their steps. Laws that rest on a
 -- distance (signs, finite answers) are in elementary_distance, module Signs. Assumes nothing.
-use mathlib.Core.Path.{_≡_, refl, sym, ap, subst, _∙_}
+use mathlib.Core.Path.{_≡_, refl, ap}
 use mathlib.Core.Bool.{true, false}
-use Prim.Native.Nat.{ℕ, suc, _+_, _*_, _≤_, _<_}
-use native.Mathlib.Nat.{mul-pos, zero-lt-suc, zero-mul}
-use native.Mathlib.Omega.{arith}
-use borrow.Author.Tests.{le-ltb, ne-eqb}
-use lib.Dec.{T, ltb→lt}
-use lib.IntN.{ℤ, pos}
-use lib.Ieee.{Float, nan, inf, fin, binary64, up, down, lt, le, eq, ne, neg, add, sub, mul, div, ofInt, ofBits, toBits}
-use lib.Ieee.Fits.{up-pos}
+use lib.Dec.{T}
+use lib.IntN.{pos}
+use lib.Ieee.{Float, nan, inf, binary64, lt, eq, ne, neg, add, sub, mul, div, ofBits, toBits}
 use lib.Ieee.Positive.{positive}
-use Rattle.numerics.specs.Double.{+0, one, two, bits, positiveFinite}
-use Rattle.numerics.specs.Nan.{itself}
-use Rattle.numerics.specs.Order.{less-numbers, below-minus}
-use Rattle.elementary.specs.Exp.{expOf, most}
+use Rattle.numerics.specs.Double.{+0, one, positiveFinite}
+use Rattle.numerics.specs.Order.{below-minus}
+use Rattle.elementary_exp.specs.Exp.{expOf}
 use Rattle.elementary_ln.specs.Ln.{lnOf}
 use Rattle.elementary.specs.Power.{powfOf, powfFrom, powiOf, powerOf}
 use Rattle.elementary.specs.Hyperbolic.{sinhOf, coshOf, tanhOf, twenty}
 use Rattle.elementary.proofs.PowerSteps.{power-ends}
-
--- ---- exp
--- "exp(±0) = 1"
-pub exp-zero : expOf +0 ≡ one
-unfolding expOf lt ne eq neg ofBits
-exp-zero = refl
-
-pub exp-minus-zero : expOf (neg +0) ≡ one
-unfolding expOf lt ne eq neg ofBits
-exp-minus-zero = refl
-
-pub exp-nan : expOf nan ≡ nan
-unfolding expOf ne
-exp-nan = refl
-
--- "Above 700 it gives +infinity, below −700 it gives +0"
-pub exp-above : (x : Float) → lt most x ≡ true → expOf x ≡ inf false
-unfolding expOf
-exp-above x e = rw (itself x (less-numbers most x e .1), e)
-
-most-positive : T (positive most)
-unfolding ofBits
-most-positive = tt
-
-pub exp-below : (x : Float) → lt x (neg most) ≡ true → expOf x ≡ +0
-unfolding expOf
-exp-below x e = rw (itself x (less-numbers x (neg most) e .0), below-minus most x most-positive e, e)
-
-pub exp-infinity : expOf (inf false) ≡ inf false
-unfolding expOf lt ne eq ofBits
-exp-infinity = refl
-
-pub exp-minus-infinity : expOf (inf true) ≡ +0
-unfolding expOf lt ne eq neg ofBits
-exp-minus-infinity = refl
 
 -- ---- powf and powi
 -- "1 for exponent 0", also with the logarithm of x at hand

@@ -1,7 +1,7 @@
 -- sinh, cosh, tanh.
 use lib.Ieee.{Float, lt, neg}
 use Rattle.numerics.specs.Double.{_⊕_, _⊖_, _⊗_, _⊘_, half, one, bits, pick}
-use Rattle.elementary.specs.Exp.{expOf}
+use Rattle.elementary_exp.specs.Exp.{expOf}
 
 -- 20.0
 abbrev pub twenty : Float

@@ -1,6 +1,3 @@
 -- The steps of the elementary functions, which fix the bits of each answer: the definitions that contracts name.
-pub mod ExpTable
-pub mod Exp
-pub mod Range
 pub mod Power
 pub mod Hyperbolic

@@ -5,7 +5,7 @@ use lib.Dec.{eqb, ltb}
 use lib.Ieee.{Float, nan, binary64, eq, ofInt}
 use lib.IntN.{ℤ, pos, negsuc}
 use Rattle.numerics.specs.Double.{_⊗_, _⊘_, +0, one, pick, positiveFinite}
-use Rattle.elementary.specs.Exp.{expOf}
+use Rattle.elementary_exp.specs.Exp.{expOf}
 use Rattle.elementary_ln.specs.Ln.{lnOf}
 
 -- "1 for exponent 0, else exp(t × ln x) for x positive and finite"; "all else gives NaN": l stands in the place of ln x

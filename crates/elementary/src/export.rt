@@ -1,14 +1,14 @@
 // The elementary functions for C. Each ends in `quieted`, so that every NaN leaves with the bits 0x7FF8000000000000.
 
 ghost use mathlib.Core.Path.{_≡_};
-ghost use Rattle.elementary.specs.Exp.{expOf};
+ghost use Rattle.elementary_exp.specs.Exp.{expOf};
 ghost use Rattle.elementary_ln.specs.Ln.{lnOf};
 ghost use Rattle.elementary_sqrt.specs.Sqrt.{sqrtOf};
 ghost use Rattle.elementary.specs.Power.{powfOf, powiOf};
 ghost use Rattle.elementary.specs.Hyperbolic.{sinhOf, coshOf, tanhOf};
-use crate::exp;
 use crate::hyperbolic;
 use crate::power;
+use elementary_exp::exp;
 use elementary_ln::ln;
 use elementary_sqrt::sqrt;
 

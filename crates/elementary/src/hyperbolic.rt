@@ -2,7 +2,7 @@
 
 ghost use mathlib.Core.Path.{_≡_};
 ghost use Rattle.elementary.specs.Hyperbolic.{sinhOf, coshOf, tanhOf};
-use crate::exp;
+use elementary_exp::exp;
 
 pub fn sinh(v: f64) -> f64
     ensures { λ r. ⌜ r ≡ sinhOf v ⌝ }

@@ -5,7 +5,7 @@ ghost use lib.IntN.{natAbs};
 ghost use lib.Ieee.{ofInt, binary64};
 ghost use Rattle.numerics.specs.Fill.{tabulate};
 ghost use Rattle.elementary.specs.Power.{powfOf, powfFrom, powerOf, powiOf, powiByteOf, signedOf};
-use crate::exp;
+use elementary_exp::exp;
 use elementary_ln::ln;
 
 // x to the power t.

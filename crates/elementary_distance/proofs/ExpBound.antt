@@ -18,15 +18,15 @@ use Rattle.numerics.specs.Exp.{inv}
 use Rattle.numerics.specs.Tail.{S-one}
 use Rattle.numerics.specs.EitherSign.{plus, minus}
 use Rattle.numerics.specs.Bound.{Bound, off, bound-near, bound-div, bound-close}
-use Rattle.elementary.specs.Exp.{countedOf, stepsOf, withinOf}
-use Rattle.elementary.specs.Range.{InRange}
-use Rattle.elementary.specs.ExpTable.{tableEntry}
-use Rattle.elementary.proofs.ExpSteps.{Reach, steps-reach}
+use Rattle.elementary_exp.specs.Exp.{countedOf, stepsOf, withinOf}
+use Rattle.elementary_exp.specs.Range.{InRange}
+use Rattle.elementary_exp.specs.ExpTable.{tableEntry}
+use Rattle.elementary_exp.proofs.ExpSteps.{Reach, steps-reach}
 use Rattle.elementary_distance.proofs.ExpParts.{over-den}
 use Rattle.elementary_distance.proofs.ExpRemainder.{reduced, reduced-rel, r-hi, r-lo, remainder-is}
 use Rattle.elementary_distance.proofs.ExpGap.{reduce-up, reduce-down}
-use Rattle.elementary.proofs.ExpConstants.{leastPower, mostPower, powers, step, zeroPower, zeroSteps}
-use Rattle.elementary.proofs.ExpTableGood.{Entry, entry-good}
+use Rattle.elementary_exp.proofs.ExpConstants.{leastPower, mostPower, powers, step, zeroPower, zeroSteps}
+use Rattle.elementary_exp.proofs.ExpTableGood.{Entry, entry-good}
 use Rattle.elementary_distance.proofs.ExpSum.{powers-of-two, steps-bound}
 use Rattle.elementary_distance.proofs.ExpPower.{scale}
 use Rattle.elementary_distance.proofs.ExpFloat.{answer-rel}

@@ -18,9 +18,9 @@ use Rattle.numerics.specs.Exp.{inv}
 use Rattle.numerics.specs.Tail.{rho, tiny-above, rho⁻}
 use Rattle.numerics.specs.Distance.{within-factor, within-factor-neg}
 use Rattle.numerics.specs.Bound.{Bound, bound-weaken}
-use Rattle.elementary.specs.Exp.{most, least, withinOf, expOf}
-use Rattle.elementary.specs.Range.{InRange}
-use Rattle.elementary.proofs.ExpTests.{in-range}
+use Rattle.elementary_exp.specs.Exp.{most, least, withinOf, expOf}
+use Rattle.elementary_exp.specs.Range.{InRange}
+use Rattle.elementary_exp.proofs.ExpTests.{in-range}
 use Rattle.elementary_distance.proofs.ExpBound.{answer-near, plus-bound-at, minus-bound-at}
 use Rattle.elementary_distance.specs.Distances.{WithinOfExp, ExpDistance, expBits}
 

@@ -14,10 +14,10 @@ use Rattle.numerics.specs.Rel.{Ample, rel-exact, rel-weaken, rel-trans, rel-mul
 use Rattle.numerics.specs.Series.{sumTop, sumBot, S}
 use Rattle.numerics.specs.Horner.{fact, one-over, taylor, taylor-is, horner, count, horner-rel}
 use Rattle.numerics.specs.Tail.{S-one, tiny-above}
-use Rattle.elementary.specs.Exp.{polynomialOf, scaleOf}
-use Rattle.elementary.proofs.ExpTableGood.{Entry}
+use Rattle.elementary_exp.specs.Exp.{polynomialOf, scaleOf}
+use Rattle.elementary_exp.proofs.ExpTableGood.{Entry}
 use Rattle.elementary_distance.proofs.ExpPower.{scale, power-rel}
-use Rattle.elementary.proofs.ExpConstants.{later, one-good, later-good, leastPower, mostPower, zeroPower}
+use Rattle.elementary_exp.proofs.ExpConstants.{later, one-good, later-good, leastPower, mostPower, zeroPower}
 
 polynomial-is : (r : Float) → polynomialOf r ≡ mul binary64 r (horner one later r)
 unfolding polynomialOf horner

@@ -13,11 +13,11 @@ use Rattle.numerics.specs.Law.{times}
 use Rattle.numerics.specs.Round.{val}
 use Rattle.numerics.specs.Bound.{off}
 use Rattle.numerics.specs.EitherSign.{plus, minus, plus-positive, minus-positive}
-use Rattle.elementary.specs.Exp.{countedOf, stepsOf}
-use Rattle.elementary.specs.Range.{InRange}
+use Rattle.elementary_exp.specs.Exp.{countedOf, stepsOf}
+use Rattle.elementary_exp.specs.Range.{InRange}
 use Rattle.elementary_distance.proofs.ExpParts.{over-den, low-exact}
 use Rattle.elementary_distance.proofs.ExpRemainder.{high-part, low-part, high-good, low-plus-near, low-minus-near, plus-few, minus-few, partly, first, partly-rel, gap₁, gap₂, v-hi, b-plus, b-minus, reduced, second, reduced-rel, r-hi}
-use Rattle.elementary.proofs.ExpConstants.{farSteps, highTop, lowTop, remainderMost, zeroSteps, step}
+use Rattle.elementary_exp.proofs.ExpConstants.{farSteps, highTop, lowTop, remainderMost, zeroSteps, step}
 use Rattle.elementary_distance.proofs.ExpErrors.{fr, gap-up, gap-down}
 
 -- ---- the two parts of m * L

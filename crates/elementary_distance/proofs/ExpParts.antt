@@ -17,8 +17,8 @@ use Rattle.numerics.specs.Round.{Normal}
 use Rattle.numerics.specs.Nonneg.{nonneg, nonneg-finite, round-rel0}
 use Rattle.numerics.specs.EitherSign.{up-part, down-part, plus, minus, round-neg, plus-neg, minus-neg, den-neg, finite-neg, parts-of-value, finite-of-value}
 use Rattle.numerics.specs.Exactly.{Differs, sub-whole, mul-whole}
-use Rattle.elementary.proofs.ExpSteps.{crude}
-use Rattle.elementary.proofs.ExpConstants.{farSteps, fewestSteps, hi, highTop, lo, lowTop, mostSteps, start, zeroSteps}
+use Rattle.elementary_exp.proofs.ExpSteps.{crude}
+use Rattle.elementary_exp.proofs.ExpConstants.{farSteps, fewestSteps, hi, highTop, lo, lowTop, mostSteps, start, zeroSteps}
 
 -- ---- u - zeroSteps
 pub record Counted (u : ℕ) (m : Float) : Type 0 where

@@ -11,11 +11,11 @@ use lib.Ieee.Positive.{num, den, den-pos, positive-finite}
 use Rattle.numerics.specs.Frac.{Frac, Close}
 use Rattle.numerics.specs.Round.{val, Rel, Normal, round-rel}
 use Rattle.numerics.specs.EitherSign.{plus, minus, plus-positive, minus-positive, sub-signed}
-use Rattle.elementary.specs.Exp.{stepHigh, stepLow, countedOf, stepsOf, remainderOf}
-use Rattle.elementary.specs.Range.{InRange}
-use Rattle.elementary.proofs.ExpRange.{ratio}
-use Rattle.elementary.proofs.ExpSteps.{Reach, steps-reach, counted-value, crude, normal-crude}
-use Rattle.elementary.proofs.ExpConstants.{far-above, far-below, farSteps, hi, hi-is, highTop, lo, lo-is, remainderLeast, remainderMost, start, start-is, stepLeast, stepMost, zeroSteps}
+use Rattle.elementary_exp.specs.Exp.{stepHigh, stepLow, countedOf, stepsOf, remainderOf}
+use Rattle.elementary_exp.specs.Range.{InRange}
+use Rattle.elementary_exp.proofs.ExpRange.{ratio}
+use Rattle.elementary_exp.proofs.ExpSteps.{Reach, steps-reach, counted-value, crude, normal-crude}
+use Rattle.elementary_exp.proofs.ExpConstants.{far-above, far-below, farSteps, hi, hi-is, highTop, lo, lo-is, remainderLeast, remainderMost, start, start-is, stepLeast, stepMost, zeroSteps}
 use Rattle.elementary_distance.proofs.ExpParts.{Counted, counted, High, high-of, over-den, low-exact, LowAt, low-of, low-small}
 
 -- ---- a difference P - N over B, between l and h parts in 10 ^ 10, rounded once

@@ -10,9 +10,9 @@ use Rattle.numerics.specs.Series.{sumTop, sumBot, S, U, Above, Below, above-by,
 use Rattle.numerics.specs.Law.{times, power, above-power, below-power}
 use Rattle.numerics.specs.Tail.{rho, under-rho, tail-under, power-top, power-bot, pow-slack, power-two, rho⁻}
 use Rattle.numerics.specs.Bound.{Bound, bound-mul, bound-arg}
-use Rattle.elementary.proofs.ExpConstants.{step, two⁺}
-use Rattle.elementary.specs.ExpTable.{tableEntry}
-use Rattle.elementary.proofs.ExpTableGood.{entry-good}
+use Rattle.elementary_exp.proofs.ExpConstants.{step, two⁺}
+use Rattle.elementary_exp.specs.ExpTable.{tableEntry}
+use Rattle.elementary_exp.proofs.ExpTableGood.{entry-good}
 
 -- ---- 64 steps: e ^ (64 * L) is 2, to 2 ^ -87
 abbrev pub doubling : Frac

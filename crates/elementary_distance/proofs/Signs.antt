@@ -12,11 +12,11 @@ use Rattle.numerics.specs.Double.{+0, one, pick, greatest, positiveFinite}
 use Rattle.numerics.specs.Finite.{round-number}
 use Rattle.numerics.specs.Nan.{itself, nan-is, is-nan, holds, or-false}
 use Rattle.numerics.specs.Order.{not-less, not-greater, eq-back, positive-above, above-not-negative, positive-of-tests}
-use Rattle.elementary.specs.Exp.{expOf, most}
+use Rattle.elementary_exp.specs.Exp.{expOf, most}
 use Rattle.elementary.specs.Power.{powfOf, powfFrom}
 use Rattle.elementary_ln.specs.Ln.{lnOf}
 use Rattle.elementary_sqrt.specs.Sqrt.{sqrtOf}
-use Rattle.elementary.proofs.Laws.{exp-nan}
+use Rattle.elementary_exp.proofs.ExpLaws.{exp-nan}
 use Rattle.elementary_distance.proofs.ExpDistance.{exp-distance}
 use Rattle.elementary_distance.proofs.LnDistance.{ln-distance}
 use Rattle.elementary_distance.proofs.SqrtNearest.{sqrt-nearest}

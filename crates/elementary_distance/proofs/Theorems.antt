@@ -5,7 +5,7 @@ use Rattle.numerics.specs.Fraction.{_⊑_, part, val}
 use Rattle.numerics.specs.Exponential.{signed}
 use Rattle.numerics.specs.Distance.{within-weaken}
 use Rattle.numerics.specs.Logarithm.{ln-near-weaken}
-use Rattle.elementary.specs.Exp.{expOf}
+use Rattle.elementary_exp.specs.Exp.{expOf}
 use Rattle.elementary_ln.specs.Ln.{lnOf}
 use Rattle.elementary_distance.specs.Distances.{ExpDistance, LnDistance, SqrtDistance, expBits, lnBits}
 use Rattle.elementary_distance.proofs.ExpDistance as exp

@@ -11,7 +11,7 @@ use lib.Ieee.Positive.{positive}
 use lib.Ieee.Scale.{finite}
 use Rattle.numerics.specs.Fraction.{Frac, _⊏_, _⊠_, part, val}
 use Rattle.numerics.specs.Exponential.{signed, Within, LnNear}
-use Rattle.elementary.specs.Exp.{expOf, most}
+use Rattle.elementary_exp.specs.Exp.{expOf, most}
 use Rattle.elementary_ln.specs.Ln.{lnOf}
 use Rattle.numerics.specs.Double.{positiveFinite}
 use Rattle.elementary_sqrt.specs.Sqrt.{sqrtOf}

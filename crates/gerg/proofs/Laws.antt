@@ -1,6 +1,6 @@
 -- What an answer says of the tests that were passed, its numbers, and the cases of document 01.
-pub mod Zero
 pub mod Admitted
 pub mod Answered
 pub mod Numbers
 pub mod Cases
+pub mod Normal

@@ -4,10 +4,10 @@ use lib.Ieee.{Float, le}
 use lib.Ieee.Scale.{finite}
 use Rattle.numerics.specs.Double.{bits, +0, pick}
 use Rattle.gerg_tables.specs.declared.Tables.{Tables}
-use Rattle.gerg_model.specs.declared.GergModel.{GergModel}
-use Rattle.gerg_model.specs.Mixture.{deltaOf, tauOf}
-use Rattle.gerg_terms.specs.declared.derivatives.GergDerivatives.{GergDerivatives}
-use Rattle.gerg_terms.specs.Derivatives.{zeroDerivatives}
+use Rattle.gerg_reducing.specs.declared.GergModel.{GergModel}
+use Rattle.gerg_reducing.specs.Reduced.{deltaOf, tauOf}
+use Rattle.gerg_derivatives.specs.declared.derivatives.GergDerivatives.{GergDerivatives}
+use Rattle.gerg_derivatives.specs.Derivatives.{zeroDerivatives}
 use Rattle.gerg_terms.specs.Terms.{componentsOf}
 use Rattle.gerg.specs.declared.Range.{Range}
 use Rattle.gerg.specs.declared.helmholtz.HelmholtzAnswer.{HelmholtzAnswer}

@@ -1,9 +1,9 @@
 // Rows 6 to 9, and the nine derivatives where they pass.
 use crate::Range;
+use gerg_derivatives::derivatives::GergDerivatives;
 use gerg_isotherm::isotherm;
-use gerg_model::GergModel;
-use gerg_model::mixture::is_finite;
-use gerg_terms::derivatives::GergDerivatives;
+use gerg_reducing::GergModel;
+use gerg_tables::numbers::is_finite;
 use gerg_terms::sums;
 ghost use mathlib.Core.Path.{_≡_};
 ghost use Rattle.gerg_tables.specs.Tables.{tables, Shaped};

@@ -2,7 +2,7 @@
 pub mod evaluate;
 pub mod helmholtz;
 
-use gerg_terms::derivatives::GergDerivatives;
+use gerg_derivatives::derivatives::GergDerivatives;
 
 // The ends of the range in which the equation is used.
 pub struct Range {

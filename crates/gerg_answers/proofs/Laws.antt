@@ -10,13 +10,13 @@ use Rattle.gerg_density.specs.DensityNumbers as ofDensity
 use Rattle.gerg_density.specs.declared.DensityResult.{DensityResult}
 use Rattle.gerg_density.specs.declared.DensityAnswer.{DensityAnswer}
 use Rattle.gerg_density.specs.declared.DensityAnswer.the-variants as density
-use Rattle.gerg_flash.specs.RootsNumbers as ofRoots
-use Rattle.gerg_flash.specs.declared.RootsAnswer.{RootsAnswer}
-use Rattle.gerg_flash.specs.declared.RootsAnswer.the-variants as roots
-use Rattle.gerg_ph.specs.SaturationNumbers as ofSaturation
-use Rattle.gerg_ph.specs.declared.PureSaturation.{PureSaturation}
-use Rattle.gerg_ph.specs.declared.SaturationAnswer.{SaturationAnswer}
-use Rattle.gerg_ph.specs.declared.SaturationAnswer.the-variants as saturation
+use Rattle.gerg_root_list.specs.RootsNumbers as ofRoots
+use Rattle.gerg_root_list.specs.declared.RootsAnswer.{RootsAnswer}
+use Rattle.gerg_root_list.specs.declared.RootsAnswer.the-variants as roots
+use Rattle.gerg_saturation.specs.SaturationNumbers as ofSaturation
+use Rattle.gerg_saturation.specs.declared.PureSaturation.{PureSaturation}
+use Rattle.gerg_saturation.specs.declared.SaturationAnswer.{SaturationAnswer}
+use Rattle.gerg_saturation.specs.declared.SaturationAnswer.the-variants as saturation
 use Rattle.gerg_answers.specs.PropertiesNumbers as ofProperties
 use Rattle.gerg_answers.specs.Answers as is
 use Rattle.gerg_answers.specs.declared.PropertiesAnswer.{PropertiesAnswer}

@@ -2,9 +2,9 @@
 use gerg::GergState;
 use gerg_density::DensityAnswer;
 use gerg_density::DensityResult;
-use gerg_flash::RootsAnswer;
-use gerg_ph::PureSaturation;
-use gerg_ph::SaturationAnswer;
+use gerg_root_list::RootsAnswer;
+use gerg_saturation::PureSaturation;
+use gerg_saturation::SaturationAnswer;
 ghost use mathlib.Core.Path.{_≡_};
 ghost use Rattle.gerg_answers.specs.Answers as is;
 

@@ -6,26 +6,25 @@ use native.Mathlib.Omega.{arith}
 use lib.Ieee.{Float, nan, neg}
 use lib.ListN.{getD}
 use Rattle.numerics.specs.Double.{bits, +0, one, two}
-use Rattle.elementary.specs.Exp.{expOf}
+use Rattle.elementary_exp.specs.Exp.{expOf}
 use Rattle.elementary_ln.specs.Ln.{lnOf}
 use Rattle.elementary_sqrt.specs.Sqrt.{sqrtOf}
-use Rattle.elementary.proofs.Laws.{exp-zero, exp-minus-zero}
+use Rattle.elementary_exp.proofs.ExpLaws.{exp-zero, exp-minus-zero}
 use Rattle.elementary_ln.proofs.LnLaws.{ln-one}
 use Rattle.elementary_sqrt.proofs.SqrtLaws.{sqrt-four}
 use Rattle.gerg_tables.specs.declared.Tables.{Tables}
-use Rattle.gerg_tables.specs.Answer as File
-use Rattle.gerg_tables.specs.Answer.{answerOf, tablesOf}
-use Rattle.gerg_tables.proofs.Examples.{empty-file-number, empty-file-value}
-use Rattle.gerg_model.specs.declared.GergModel.{GergModel}
+use Rattle.gerg_coefficients.specs.Answer as File
+use Rattle.gerg_coefficients.specs.Answer.{answerOf, tablesOf}
+use Rattle.gerg_coefficients.proofs.Examples.{empty-file-number, empty-file-value}
+use Rattle.gerg_reducing.specs.declared.GergModel.{GergModel}
 use Rattle.gerg_model.specs.Mixture.{byComponent, modelOf}
 use Rattle.gerg_reducing.specs.Reducing.{gradientsOf}
 use Rattle.gerg_model_cases.specs.Cases.{equalTables}
 use Rattle.gerg_model_cases.proofs.Cases.{pure-density, pure-temperature, pure-gradient, halves-density}
-use Rattle.gerg_terms.specs.declared.derivatives.GergDerivatives.{GergDerivatives}
 use Rattle.gerg.specs.declared.helmholtz.HelmholtzAnswer.the-variants as derived
-use Rattle.gerg_terms.specs.Derivatives.{zeroDerivatives, termOf}
-use Rattle.gerg_terms.proofs.Laws.Cases.{term-case}
-use Rattle.gerg_model.specs.Mixture.{deltaOf, tauOf}
+use Rattle.gerg_derivatives.specs.Derivatives.{zeroDerivatives, termOf}
+use Rattle.gerg_derivatives.proofs.Laws.Cases.{term-case}
+use Rattle.gerg_reducing.specs.Reduced.{deltaOf, tauOf}
 use Rattle.gerg_terms.specs.Terms.{componentsOf}
 use Rattle.gerg.specs.Helmholtz.{helmholtzOf, normalRange, checkedOf}
 use Rattle.gerg.proofs.Laws.Cases.{passes-200, below-200, density-first}
@@ -36,10 +35,10 @@ use Rattle.gerg_prepared.specs.Mixed as ofRows
 use Rattle.gerg_prepared.specs.Mixed.{mixedOf}
 use Rattle.gerg_prepared.specs.declared.Refusal.the-variants.{Refused}
 use Rattle.gerg_answers.specs.PropertiesNumbers as ofProperties
-use Rattle.gerg_api.specs.Calls.{propertiesOf, densityCall}
+use Rattle.gerg_calls.specs.Calls.{propertiesOf, densityCall}
 use Rattle.gerg_api.specs.Promised.{Prepared}
-use Rattle.gerg_api.proofs.Laws.After.{density-answer}
-use Rattle.gerg_api.proofs.Laws.Below.{nothing-refused, file-rows}
+use Rattle.gerg_calls.proofs.Laws.After.{density-answer}
+use Rattle.gerg_prepared.proofs.Refused.{nothing-refused, file-rows}
 use Rattle.gerg_api.proofs.Promises.Refusals.{properties-rows}
 
 pub record Cases : Type 0 where

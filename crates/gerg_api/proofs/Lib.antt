@@ -1,4 +1,3 @@
--- Laws of the public calls, what the demands promise of them, and the proved cases.
-pub mod Laws
+-- What the demands promise of the public calls, and the proved cases.
 pub mod Promises
 pub mod Cases

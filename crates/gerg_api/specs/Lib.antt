@@ -1,4 +1,2 @@
--- The public calls: what each answers and writes, from the coefficient file's bytes, the component list and the fractions.
-pub mod Calls
-pub mod Equilibrium
+-- The words of the demands about the public calls.
 pub mod Promised

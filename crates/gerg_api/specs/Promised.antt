@@ -1,7 +1,7 @@
 -- The words of the demands about the public calls: what the promises (proofs/Promises) say of a call.
 use mathlib.Core.Path.{_≡_}
 use mathlib.Core.Bool.{false}
-use mathlib.Core.List.{List, []}
+use mathlib.Core.List.{List}
 use Prim.Native.Nat.{ℕ, _+_, _*_}
 use lib.Dec.{T}
 use lib.IntN.{pos}
@@ -9,16 +9,15 @@ use lib.Ieee.{Float, binary64, nan, ofInt, lt, le}
 use lib.Ieee.Positive.{positive}
 use lib.ListN.{length, getD}
 use Rattle.numerics.specs.Double.{+0}
-use Rattle.gerg_tables.specs.Answer.{tablesOf}
+use Rattle.gerg_coefficients.specs.Answer.{tablesOf}
 use Rattle.gerg.specs.Helmholtz.{normalRange}
 use Rattle.gerg_density.specs.declared.DensityResult.{DensityResult}
 use Rattle.gerg_search.specs.declared.Options.{Options}
 use Rattle.gerg_density.specs.Density.{densityTrials, residualOf, beyondOf}
 use Rattle.gerg_density.specs.Promised as search
-use Rattle.gerg_ph.specs.Saturation.{saturationTrials}
-use Rattle.gerg_prepared.specs.Mixed.{mixedOf, memoryRows, numberOf}
+use Rattle.gerg_prepared.specs.Mixed.{mixedOf, numberOf}
 use Rattle.gerg_answers.specs.declared.PropertiesAnswer.the-variants as answer
-use Rattle.gerg_api.specs.Calls.{gradientRows, propertiesOf}
+use Rattle.gerg_calls.specs.Calls.{propertiesOf, densityCallTrials}
 
 -- 35 MPa
 abbrev pub 35-MPa : Float
@@ -32,21 +31,8 @@ Prepared bytes list fractions = numberOf (mixedOf bytes list fractions .refusal)
 abbrev pub writtenDensity : List ℕ → List Float → ℕ → Float
 writtenDensity list memory i = getD memory (i * (4 + length list)) nan
 
--- the trials of a saturation call: none where rows 1 to 5 refuse
-unfoldable pub saturationCallTrials : List ℕ → List ℕ → List Float → Float → Float → Float → ℕ → List Float
-saturationCallTrials bytes list fractions target lo hi limit =
-    let m = mixedOf bytes list fractions in
-    memoryRows (m .refusal) [] (saturationTrials (tablesOf bytes) (m .model) (gradientRows m) normalRange target lo hi limit)
-
 module _ (bytes list : List ℕ) (fractions : List Float) (temperature target : Float) (o : Options) where
-  -- the trials of a density call: none where rows 1 to 5 refuse
-  unfoldable pub densityCallTrials : List Float
-  densityCallTrials =
-      let m = mixedOf bytes list fractions in
-      memoryRows (m .refusal) [] (densityTrials (tablesOf bytes) (m .model) normalRange temperature target o)
-
-  -- "An accepted density lies in the given bracket, ends allowed; its state's pressure is in (0, 35 MPa] and meets the tolerance as row 17 tests it; its stiffness and cv are positive".
-  -- The state is what `properties` answers at that density; `positive` is finite and above zero
+  -- "An accepted density lies in the given bracket, ends allowed; its state's pressure is in (0, 35 MPa] and meets the tolerance as row 17 tests it; its stiffness and cv are positive". The state is what `properties` answers at that density; `positive` is finite and above zero
   pub record AcceptedDensity (r : DensityResult) : Type 0 where
     pub from : T (le (o .bracket .lo) (r .state .«molar_density»))
     pub to : T (le (r .state .«molar_density») (o .bracket .hi))
@@ -56,18 +42,17 @@ module _ (bytes list : List ℕ) (fractions : List Float) (temperature target : 
     pub check : beyondOf (o .tolerance) (residualOf target (r .state)) ≡ false
     pub stiffness : T (positive (r .state .«dp_drho»))
     pub cv : T (positive (r .state .cv))
-    pub trials : r .trials ≡ length densityCallTrials
+    pub trials : r .trials ≡ length (densityCallTrials bytes list fractions temperature target o)
     pub first : r .first ≡ o .bracket
 
-  -- row 18: "two neighbouring doubles were both tried in that search, neither within the tolerance, the computed pressure of one below the target and of the other above it";
-  -- the search is the one that the call makes past rows 1 to 5
+  -- row 18: "two neighbouring doubles were both tried in that search, neither within the tolerance, the computed pressure of one below the target and of the other above it"; the search is the one that the call makes past rows 1 to 5
   pub record CollapsedCall : Type 0 where
-    pub list-is : densityCallTrials ≡ densityTrials (tablesOf bytes) (mixedOf bytes list fractions .model) normalRange temperature target o
+    pub list-is : densityCallTrials bytes list fractions temperature target o ≡ densityTrials (tablesOf bytes) (mixedOf bytes list fractions .model) normalRange temperature target o
     pub collapsed : search.Collapsed (tablesOf bytes) (mixedOf bytes list fractions .model) normalRange temperature target o
 
   -- row 19: "as many trials as the limit and a double still between the ends"
   pub record LimitedCall : Type 0 where
-    pub list-is : densityCallTrials ≡ densityTrials (tablesOf bytes) (mixedOf bytes list fractions .model) normalRange temperature target o
+    pub list-is : densityCallTrials bytes list fractions temperature target o ≡ densityTrials (tablesOf bytes) (mixedOf bytes list fractions .model) normalRange temperature target o
     pub limited : search.Limited (tablesOf bytes) (mixedOf bytes list fractions .model) normalRange temperature target o
 
   -- 18's other direction: "where no double is then left between the ends" after a trial of that search that neither accepts nor refuses

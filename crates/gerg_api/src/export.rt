@@ -1,15 +1,15 @@
 // The public calls for C: number × 2^32 + value, 0 when accepted; a slice is a pointer and a length.
-use crate::density;
-use crate::fugacity;
-use crate::properties;
-use crate::roots;
-use crate::saturation;
+use gerg_calls::density;
+use gerg_calls::fugacity;
+use gerg_calls::properties;
+use gerg_equilibrium::roots;
+use gerg_equilibrium::saturation;
 use gerg_search::Bracket;
 use gerg_search::Options;
 ghost use mathlib.Core.Path.{_≡_};
 ghost use Rattle.gerg_answers.specs.Answers as answers;
-ghost use Rattle.gerg_api.specs.Calls as is;
-ghost use Rattle.gerg_api.specs.Equilibrium as equilibrium;
+ghost use Rattle.gerg_calls.specs.Calls as is;
+ghost use Rattle.gerg_equilibrium.specs.Equilibrium as equilibrium;
 
 #[no_mangle]
 pub extern "C" fn gerg_properties(

@@ -1,9 +1,3 @@
-// The public calls. Each starts from the coefficient file's bytes, the component list and the fractions, and meets rows 1 to 5 first.
+// The public calls for C; what is promised of the public calls stands in proofs/Promises.
 
-pub mod density;
 pub mod export;
-pub mod fugacity;
-pub mod properties;
-pub mod roots;
-pub mod saturation;
-mod state;

@@ -7,7 +7,7 @@ use lib.Ieee.{Float, nan, eq, neg}
 use lib.ListN.{getD, set, replicate}
 use Rattle.numerics.specs.Double.{_⊕_, _⊗_, +0, pick}
 use Rattle.numerics.specs.Iterate.{iter, range}
-use Rattle.elementary.specs.Exp.{expOf}
+use Rattle.elementary_exp.specs.Exp.{expOf}
 use Rattle.elementary.specs.Power.{powfOf, powiByteOf}
 use Rattle.gerg_tables.specs.declared.Tables.{Tables}
 use Rattle.gerg_tables.specs.Tables.{kpol, kexp, coik, doik, noik, toik, mNumb, fij, kpolij, kexpij, dijk, cijk, eijk, gijk, nijk, tijk}

@@ -6,7 +6,7 @@ use lib.Dec.{ltb}
 use lib.Ieee.{Float, neg}
 use Rattle.numerics.specs.Double.{+0, pick}
 use Rattle.numerics.specs.Fill.{tabulate}
-use Rattle.elementary.specs.Exp.{expOf}
+use Rattle.elementary_exp.specs.Exp.{expOf}
 use Rattle.elementary_ln.specs.Ln.{lnOf}
 use Rattle.elementary.specs.Power.{powiByteOf}
 use Rattle.gerg_composition.specs.declared.Point.{Point}

@@ -1,7 +1,7 @@
 // Powers of delta and damping factors, worked out once a call.
-use elementary::exp::exp;
 use elementary::power;
-use gerg_model::mixture::wide;
+use elementary_exp::exp::exp;
+use gerg_tables::numbers::wide;
 ghost use mathlib.Core.Path.{_≡_};
 ghost use Rattle.numerics.specs.Fill.{tabulate};
 ghost use Rattle.elementary.specs.Power.{powiByteOf};

@@ -12,7 +12,7 @@ use lib.Ieee.{Float, le}
 use lib.ListN.{length}
 use Rattle.numerics.specs.Double.{pick}
 use Rattle.gerg_tables.specs.declared.Tables.{Tables}
-use Rattle.gerg_model.specs.declared.GergModel.{GergModel}
+use Rattle.gerg_reducing.specs.declared.GergModel.{GergModel}
 use Rattle.gerg.specs.declared.Range.{Range}
 use Rattle.gerg.specs.declared.evaluate.EvaluateAnswer.{EvaluateAnswer}
 use Rattle.gerg.specs.Evaluate.{evaluateOf}

@@ -8,7 +8,7 @@ use lib.Ieee.Positive.{positive}
 use lib.ListN.{length}
 use Rattle.numerics.specs.Double.{+0}
 use Rattle.gerg_tables.specs.declared.Tables.{Tables}
-use Rattle.gerg_model.specs.declared.GergModel.{GergModel}
+use Rattle.gerg_reducing.specs.declared.GergModel.{GergModel}
 use Rattle.gerg.specs.declared.Range.{Range}
 use Rattle.gerg.specs.declared.evaluate.EvaluateAnswer.{EvaluateAnswer}
 use Rattle.gerg.specs.Evaluate.{evaluateOf}

@@ -9,8 +9,8 @@ use lib.Ieee.{Float, binary64, fits, lt}
 use lib.ListN.{length}
 use Rattle.numerics.specs.Double.{_⊖_, _⊘_}
 use Rattle.gerg_tables.specs.declared.Tables.{Tables}
-use Rattle.gerg_model.specs.declared.GergModel.{GergModel}
-use Rattle.gerg_terms.specs.declared.derivatives.GergDerivatives.{GergDerivatives}
+use Rattle.gerg_reducing.specs.declared.GergModel.{GergModel}
+use Rattle.gerg_derivatives.specs.declared.derivatives.GergDerivatives.{GergDerivatives}
 use Rattle.gerg.specs.declared.Range.{Range}
 use Rattle.gerg.specs.declared.helmholtz.HelmholtzAnswer.{HelmholtzAnswer}
 use Rattle.gerg.specs.Helmholtz.{helmholtzOf}

@@ -4,7 +4,7 @@ use Prim.Native.Nat.{_^_, _<_}
 use mathlib.Core.Bool.{false}
 use lib.Ieee.{Float, fits}
 use Rattle.gerg_tables.specs.declared.Tables.{Tables}
-use Rattle.gerg_model.specs.declared.GergModel.{GergModel}
+use Rattle.gerg_reducing.specs.declared.GergModel.{GergModel}
 use Rattle.gerg.specs.declared.Range.{Range}
 use Rattle.gerg_search.specs.States.{Doubles}
 use Rattle.gerg_search.specs.Checks.{optionsRefused, targetRefused}

@@ -10,7 +10,7 @@ use gerg::evaluate::evaluate_at;
 use gerg::helmholtz;
 use gerg::helmholtz::HelmholtzAnswer;
 use gerg_isotherm::isotherm;
-use gerg_model::GergModel;
+use gerg_reducing::GergModel;
 use gerg_search::Bracket;
 use gerg_search::Options;
 use gerg_search::Outcome;

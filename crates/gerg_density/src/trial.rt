@@ -1,8 +1,8 @@
 // The trial of a density, from the derivatives of the Helmholtz energy there.
 
 use gerg::evaluate::GERG_GAS_CONSTANT;
-use gerg_model::mixture::is_finite;
 use gerg_search::Sample;
+use gerg_tables::numbers::is_finite;
 ghost use mathlib.Core.Path.{_≡_};
 ghost use Rattle.gerg_density.specs.Trial.{trialPressure, trialStiffness, scaleOf, sampleOf};
 

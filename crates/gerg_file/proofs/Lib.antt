@@ -1,5 +1,4 @@
 -- Laws that the proofs of this crate share, and those that other crates cite.
-pub mod Tests
 pub mod Heads
 pub mod Chain
 pub mod Sections

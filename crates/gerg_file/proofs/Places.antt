@@ -1,24 +1,22 @@
 -- In a well-formed file the records stand where the tables are read from, and the file is no longer than the longest one.
 use mathlib.Core.Path.{_≡_, refl, sym, ap, _∙_}
-use mathlib.Core.Bool.{Bool, true, false, _&&_, cond}
+use mathlib.Core.Bool.{Bool, _&&_}
 use mathlib.Core.List.{List}
 use mathlib.Core.Logic.{_⊎_, inl, inr}
 use Prim.Native.Nat.{ℕ, zero, suc, _+_, _-_, _*_, _≤_, _<_}
 use native.Mathlib.Nat.{mul-suc, mul-zero, mul-add, eq-or-lt-of-le}
 use native.Mathlib.Omega.{arith}
 use borrow.Author.Tests.{eqb-true}
-use lib.Dec.{leb, ltb, eqb}
+use lib.Dec.{leb, eqb}
 use lib.ListN.{length}
+use Rattle.numerics.specs.Tests.{and-true}
 use Rattle.gerg_file.specs.declared.walk.Walk.{Walk}
-use Rattle.gerg_file.specs.declared.walk.Walk.the-variants.{To, Bad}
-use Rattle.gerg_file.specs.declared.File.{File}
-use Rattle.gerg_file.specs.declared.File.the-variants.{WellFormed}
-use Rattle.gerg_file.specs.declared.Layout.{Layout}
+use Rattle.gerg_file.specs.declared.walk.Walk.the-variants.{To}
 use Rattle.gerg_file.specs.Bytes.{byte, termCount}
-use Rattle.gerg_file.specs.File.{follow, place, chain, counted, numbered, group, pairRow}
+use Rattle.gerg_file.specs.File.{place, chain, counted, numbered, group}
 use Rattle.gerg_file.specs.Counts.{sum}
 use Rattle.gerg_file.proofs.Begins.{Stands}
-use Rattle.gerg_file.proofs.WellFormed.{follow-to, pick-to, and-right, chain-step, counted-size}
+use Rattle.gerg_file.proofs.WellFormed.{follow-to, pick-to, chain-step, counted-size}
 
 -- sums
 pub sum-same : (f g : ℕ → ℕ) → ((h : ℕ) → f h ≡ g h) → (n : ℕ) → sum f n ≡ sum g n
@@ -79,10 +77,6 @@ numberedTest s kind size lead number at =
 pub numbered-size : (s : List ℕ) (kind size lead number at p : ℕ) → numbered s kind size lead number at ≡ To p → p ≡ at + size
 numbered-size s kind size lead number at p e = pick-to (numberedTest s kind size lead number at) (at + size) at p e .1
 
-and-left : (a b : Bool) → (a && b) ≡ true → a ≡ true
-and-left true b e = refl
-and-left false b e = e
-
 pub numbered-stands : (s : List ℕ) (kind size lead number at p : ℕ) → numbered s kind size lead number at ≡ To p → Stands s kind lead number at
 numbered-stands s kind size lead number at p e =
     let a = leb (at + size) (length s) in
@@ -91,9 +85,9 @@ numbered-stands s kind size lead number at p e =
     let d = eqb (byte s (at + 2)) number in
     let t = pick-to (a && b && c && d) (at + size) at p e .0 in
     record {
-      kind-is = eqb-true _ _ (and-right a b (and-left (a && b) c (and-left (a && b && c) d t)));
-      lead-is = eqb-true _ _ (and-right (a && b) c (and-left (a && b && c) d t));
-      number-is = eqb-true _ _ (and-right (a && b && c) d t);
+      kind-is = eqb-true _ _ (and-true a b (and-true (a && b) c (and-true (a && b && c) d t .0) .0) .1);
+      lead-is = eqb-true _ _ (and-true (a && b) c (and-true (a && b && c) d t .0) .1);
+      number-is = eqb-true _ _ (and-true (a && b && c) d t .1);
     }
 
 -- .. that agree, and that are 0 from number n on

@@ -8,6 +8,7 @@ use native.Mathlib.Omega.{arith}
 use borrow.Author.Tests.{leb-true, eqb-true}
 use lib.Dec.{leb, eqb}
 use lib.ListN.{length}
+use Rattle.numerics.specs.Tests.{and-true}
 use Rattle.numerics.specs.Double.{pick}
 use Rattle.gerg_file.specs.declared.walk.Walk.{Walk}
 use Rattle.gerg_file.specs.declared.walk.Walk.the-variants.{To, Bad}
@@ -26,10 +27,6 @@ follow-to (Bad at) f p e = let z : _≡_ {A = ℕ} 0 1 = cc in absurd (omega ari
 pub pick-to : (b : Bool) (at bad p : ℕ) → pick b (To at) (Bad bad) ≡ To p → (b ≡ true) × (p ≡ at)
 pick-to true at bad p e = (refl, cc)
 pick-to false at bad p e = let z : _≡_ {A = ℕ} 0 1 = cc in absurd (omega arith)
-
-pub and-right : (a b : Bool) → (a && b) ≡ true → b ≡ true
-and-right true b e = e
-and-right false b e = let z : _≡_ {A = ℕ} 0 1 = cc in absurd (omega arith)
 
 -- step k of n steps of one size
 module _ (step : ℕ → ℕ → Walk) (size : ℕ) (sized : (i at p : ℕ) → step i at ≡ To p → p ≡ at + size) where
@@ -60,8 +57,8 @@ pub counted-limit : (s : List ℕ) (kind size counts limit lead at p : ℕ) → 
     → termCount s (at + counts) ≤ limit
 counted-limit s kind size counts limit lead at p e =
     leb-true _ _
-    (and-right (countedTest s kind size lead at) (leb (termCount s (at + counts)) limit)
-    (pick-to (countedTest s kind size lead at && leb (termCount s (at + counts)) limit) (at + size) at p e .0))
+    (and-true (countedTest s kind size lead at) (leb (termCount s (at + counts)) limit)
+    (pick-to (countedTest s kind size lead at && leb (termCount s (at + counts)) limit) (at + size) at p e .0) .1)
 
 -- at most n functions are counted
 at-most : (b : Bool) (x n : ℕ) → x ≤ n → cond b (suc x) 0 ≤ suc n

@@ -1,15 +1,10 @@
--- The ways of the code's steps, by arrays
-pub mod Keeping
-pub mod Answering
-pub mod Settled
--- by what numbers a search refuses, and how many roots it keeps
+-- The ways of the call through rows 20 and 21
+pub mod Tested
+-- by what numbers a search refuses, how many roots it keeps, and the value of its answer
 pub mod Numbers
 pub mod Few
 pub mod Values
-pub mod Envelope
--- lists of densities that rise: the grid, and the roots of every scan
-pub mod RootList
-pub mod KeptRises
+-- the roots that it keeps rise
 pub mod RootsRise
--- what an accepted call has written
-pub mod Written
+-- what an accepted call tells
+pub mod Accepted

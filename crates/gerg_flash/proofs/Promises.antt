@@ -1,5 +1,5 @@
 -- What every answer of `outer_roots` keeps, whatever the file, the mixture, the range, the temperature and the pressure. Assumes nothing.
-use mathlib.Core.Path.{_≡_, refl, sym, ap, _∙_}
+use mathlib.Core.Path.{_≡_, ap, _∙_}
 use mathlib.Core.List.{List}
 use Prim.Native.Nat.{ℕ, _+_, _*_, _^_, _≤_, _<_}
 use native.Mathlib.Nat.{lt-trans, mul-le-mul}
@@ -9,17 +9,17 @@ use lib.Ieee.{Float, nan, lt}
 use lib.ListN.{length, getD}
 use Rattle.numerics.specs.Spacing.{count→lt}
 use Rattle.gerg_tables.specs.declared.Tables.{Tables}
-use Rattle.gerg_model.specs.declared.GergModel.{GergModel}
+use Rattle.gerg_reducing.specs.declared.GergModel.{GergModel}
 use Rattle.gerg.specs.declared.Range.{Range}
-use Rattle.gerg_flash.specs.Roots.{Kept, numberAt, memoryBy, searchedOf, rootsOf, rootsMemory}
-use Rattle.gerg_flash.specs.RootsNumbers.{numberOf, valueOf}
-use Rattle.gerg_flash.specs.declared.RootsAnswer.{RootsAnswer}
-use Rattle.gerg_flash.specs.declared.RootsAnswer.the-variants.{Roots, Refused}
+use Rattle.gerg_flash.specs.Roots.{searchedOf, rootsOf, rootsMemory}
+use Rattle.gerg_root_list.specs.RootsNumbers.{numberOf, valueOf}
+use Rattle.gerg_root_list.specs.declared.RootsAnswer.the-variants.{Roots}
 use Rattle.gerg_flash.proofs.Laws.Few.{searched-few}
-use Rattle.gerg_flash.proofs.Laws.RootList.{rootList}
+use Rattle.gerg_root_list.proofs.Laws.RootList.{rootList}
 use Rattle.gerg_flash.proofs.Laws.RootsRise.{searched-rises}
 use Rattle.gerg_flash.proofs.Laws.Values.{roots-told}
-use Rattle.gerg_flash.proofs.Laws.Written.{roots-at, roots-past, list-at, list-length, Accepted, roots-accepted}
+use Rattle.gerg_root_list.proofs.Laws.Written.{list-length, density-at, past-stay, refused-stays, Accepted}
+use Rattle.gerg_flash.proofs.Laws.Accepted.{roots-accepted}
 
 -- ---- of an accepted call, which answers n roots
 module _ (t : Tables) (m : GergModel) (gradients : List (List Float)) (range : Range) (temperature pressure : Float) (out : List Float) (n : ℕ) (e : rootsOf t m gradients range temperature pressure (length out) ≡ Roots n) where
@@ -35,11 +35,8 @@ module _ (t : Tables) (m : GergModel) (gradients : List (List Float)) (range : R
   needed-lent = omega (arith, ap (λ (c : ℕ). c * (4 + m .components)) (accepted .count), accepted .room)
 
   density : (i : ℕ) → i < n → getD (rootsMemory t m gradients range temperature pressure out) (i * (4 + m .components)) nan ≡ getD (rootList (searchedOf t m gradients range temperature pressure .heads)) i nan
-  unfolding rootsMemory memoryBy numberAt
-  density i h =
-      let k = searchedOf t m gradients range temperature pressure in
-      let z : i * (4 + m .components) ≡ i * (4 + m .components) + 0 = omega arith in
-      rw (e, z) (roots-at (k .heads) (k .coefficients) (4 + m .components) n out i 0 h (omega arith) needed-lent ∙ sym (list-at (k .heads) i))
+  unfolding rootsMemory
+  density i h = density-at m (searchedOf t m gradients range temperature pressure) (rootsOf t m gradients range temperature pressure (length out)) n out e needed-lent i h
 
   -- "Root lists rise strictly": of two roots as they are written, 4 + the list's length doubles each with the density first, the later has the greater density
   pub root-lists-rise : (i j : ℕ) → i < j → j < n → T (lt (getD (rootsMemory t m gradients range temperature pressure out) (i * (4 + m .components)) nan) (getD (rootsMemory t m gradients range temperature pressure out) (j * (4 + m .components)) nan))
@@ -53,22 +50,15 @@ module _ (t : Tables) (m : GergModel) (gradients : List (List Float)) (range : R
 
   -- "doubles of a lent answer past those needed stay as lent, for roots too"
   pub past-needed-stay : (i : ℕ) → n * (4 + m .components) ≤ i → getD (rootsMemory t m gradients range temperature pressure out) i nan ≡ getD out i nan
-  unfolding rootsMemory memoryBy
-  past-needed-stay i h =
-      let k = searchedOf t m gradients range temperature pressure in
-      rw e (roots-past (k .heads) (k .coefficients) (4 + m .components) n out i h)
+  unfolding rootsMemory
+  past-needed-stay i h = past-stay m (searchedOf t m gradients range temperature pressure) (rootsOf t m gradients range temperature pressure (length out)) n out e i h
 
 -- ---- of every call
 module _ (t : Tables) (m : GergModel) (gradients : List (List Float)) (range : Range) (temperature pressure : Float) where
-  refused-stays : (k : Kept) (a : RootsAnswer) (out : List Float) → (numberOf a ≡ 0 → ⊥) → memoryBy m k a out ≡ out
-  unfolding memoryBy
-  refused-stays k (Roots n) out h = absurd (h refl)
-  refused-stays k (Refused number value) out h = refl
-
   -- "Every row leaves all lent memory as it was"
   pub refusal-leaves-memory : (out : List Float) → (numberOf (rootsOf t m gradients range temperature pressure (length out)) ≡ 0 → ⊥) → rootsMemory t m gradients range temperature pressure out ≡ out
   unfolding rootsMemory
-  refusal-leaves-memory out h = refused-stays (searchedOf t m gradients range temperature pressure) (rootsOf t m gradients range temperature pressure (length out)) out h
+  refusal-leaves-memory out h = refused-stays m (searchedOf t m gradients range temperature pressure) (rootsOf t m gradients range temperature pressure (length out)) out h
 
   -- number 0 is an accepted call
   pub accepted-roots : (lent : ℕ) → numberOf (rootsOf t m gradients range temperature pressure lent) ≡ 0 → (n : ℕ) × (rootsOf t m gradients range temperature pressure lent ≡ Roots n)

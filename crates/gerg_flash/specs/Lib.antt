@@ -1,5 +1,3 @@
--- The exterior roots of an isotherm: the grid, the scan with its halvings, and the answer.
+-- The exterior roots of an isotherm: what a root gives, the search and the answer.
 pub mod Roots
-pub mod RootsNumbers
-pub mod RootsArrays
 pub mod SoughtRoots

@@ -2,7 +2,8 @@
 use mathlib.Core.List.{List}
 use lib.Ieee.{Float}
 use Rattle.gerg_tables.specs.declared.Tables.{Tables}
-use Rattle.gerg_flash.specs.Roots.{Outcome, Kept, rootAt, searchedOf}
+use Rattle.gerg_root_list.specs.RootList.{Outcome, Kept}
+use Rattle.gerg_flash.specs.Roots.{rootAt, searchedOf}
 use Rattle.gerg_scan.specs.declared.Sought.{Sought}
 
 abbrev pub rootFor : Tables → List (List Float) → Sought → Float → Outcome

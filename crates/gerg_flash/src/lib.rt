@@ -19,15 +19,3 @@ pub struct RootState {
     pub density: f64,
     pub state: GergState,
 }
-
-// The roots that are kept so far, which lie in two arrays beside it, and the number of the refusal that ended it, or 0.
-pub struct Settled {
-    pub count: usize,
-    pub refused: u8,
-}
-
-// The number of exterior roots, or document 01's number and value.
-pub enum RootsAnswer {
-    Roots(usize),
-    Refused { number: u8, value: usize },
-}

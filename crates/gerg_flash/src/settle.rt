@@ -2,31 +2,26 @@
 
 use crate::Candidate;
 use crate::RootState;
-use crate::Settled;
 use gerg::evaluate;
 use gerg::evaluate::EvaluateAnswer;
 use gerg_fugacity::fugacity;
 use gerg_fugacity::fugacity::FugacityCheck;
-use gerg_scan::Scan;
+use gerg_root_list::Settled;
+use gerg_root_list::answer;
 use gerg_scan::Sought;
-use gerg_scan::halve;
+use gerg_scan_steps::Scan;
 ghost use mathlib.Core.Path.{_≡_};
 ghost use Prim.Native.Nat.{_<_, _≤_};
 ghost use lib.ListN.{length};
 ghost use Rattle.gerg_tables.specs.Tables.{tables, Shaped};
 ghost use Rattle.gerg_fugacity.specs.Fugacity.{fugacityOf};
-ghost use Rattle.gerg_model.specs.Listed.{Listed};
-ghost use Rattle.gerg_scan.specs.ScanArrays.{scannedOf};
-ghost use Rattle.gerg_flash.specs.Roots as is;
-ghost use Rattle.gerg_flash.specs.RootsArrays.{Joined, Kept, Settles};
+ghost use Rattle.gerg_reducing.specs.Listed.{Listed};
+ghost use Rattle.gerg_scan_steps.specs.ScanArrays.{scannedOf};
+ghost use Rattle.gerg_root_list.specs.RootList as is;
+ghost use Rattle.gerg_flash.specs.Roots.{checkedOf};
+ghost use Rattle.gerg_root_list.specs.RootsArrays.{Joined, Kept, Settles};
 ghost use Rattle.gerg_scan.specs.Sought.{isothermFor};
 ghost use Rattle.gerg_flash.specs.SoughtRoots.{rootFor};
-
-fn limit(target: f64) -> f64
-    ensures { λ r. ⌜ r ≡ is.limitOf target ⌝ }
-{
-    halve::larger(5e-12 * target, 2e-7)
-}
 
 // A state's root behind those that are kept, unless a coefficient is refused.
 fn state_root<'a>(
@@ -40,7 +35,7 @@ fn state_root<'a>(
     root: RootState,
 ) -> Settled
     requires { ⌜ (s .count < 386) × (length (now heads) ≡ 386) × (length (now coefficients) ≡ 386) × Shaped (tables (now doubles) (now integers)) × Listed (sought .model) ⌝ }
-    ensures { λ r. ⌜ Joined (is.checkedOf (tables (now (doubles .entry)) (now (integers .entry))) (sought .model) (now (gradients .entry)) (sought .temperature) (root .density) (root .state)
+    ensures { λ r. ⌜ Joined (checkedOf (tables (now (doubles .entry)) (now (integers .entry))) (sought .model) (now (gradients .entry)) (sought .temperature) (root .density) (root .state)
         (fugacityOf (tables (now (doubles .entry)) (now (integers .entry))) (sought .model) (now (gradients .entry)) (root .state) (sought .temperature) (root .density))) s
         (now (heads .entry)) (now (coefficients .entry)) r (now (heads .exit)) (now (coefficients .exit)) ⌝ }
 {
@@ -149,7 +144,7 @@ fn keep_step<'a>(
     if (found.first_negative < found.density) & (found.density < found.last_negative) {
         return s;
     }
-    if found.residual > limit(sought.pressure) {
+    if found.residual > answer::limit(sought.pressure) {
         return Settled {
             count: s.count,
             refused: 22,

@@ -1,3 +1,4 @@
--- The coefficients worked out once, and the numbers of the answers.
+-- The coefficients worked out once, the numbers of the answers, and what is written.
 pub mod Worked
 pub mod Numbers
+pub mod Memory

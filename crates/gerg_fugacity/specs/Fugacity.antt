@@ -8,10 +8,11 @@ use Rattle.numerics.specs.Iterate.{iter}
 use Rattle.numerics.specs.Fill.{filled}
 use Rattle.elementary_ln.specs.Ln.{lnOf}
 use Rattle.gerg_tables.specs.declared.Tables.{Tables}
-use Rattle.gerg_model.specs.Mixture.{thousand, allFinite}
+use Rattle.gerg_reducing.specs.Reduced.{thousand}
+use Rattle.gerg_model.specs.Mixture.{allFinite}
 use Rattle.gerg_reducing.specs.Reducing.{bumped}
-use Rattle.gerg_model.specs.declared.GergModel.{GergModel}
-use Rattle.gerg_terms.specs.declared.derivatives.GergDerivatives.{GergDerivatives}
+use Rattle.gerg_reducing.specs.declared.GergModel.{GergModel}
+use Rattle.gerg_derivatives.specs.declared.derivatives.GergDerivatives.{GergDerivatives}
 use Rattle.gerg.specs.declared.GergState.{GergState}
 use Rattle.gerg_composition.specs.Composition.{composition}
 use Rattle.gerg_fugacity.specs.declared.fugacity.FugacityCheck.{FugacityCheck}

@@ -2,16 +2,17 @@
 use elementary_ln::ln::ln;
 use gerg::GergState;
 use gerg_composition::composition;
-use gerg_model::GergModel;
+use gerg_derivatives::derivatives::GergDerivatives;
 use gerg_model::mixture;
-use gerg_terms::derivatives::GergDerivatives;
+use gerg_reducing::GergModel;
+use gerg_tables::numbers;
 ghost use mathlib.Core.Path.{_≡_};
 ghost use Prim.Native.Nat.{_≤_, _<_};
 ghost use lib.Ieee.{nan};
 ghost use lib.ListN.{length, getD};
 ghost use Rattle.numerics.specs.Fill.{filled};
 ghost use Rattle.gerg_tables.specs.Tables.{tables, Shaped};
-ghost use Rattle.gerg_model.specs.Listed.{Listed};
+ghost use Rattle.gerg_reducing.specs.Listed.{Listed};
 ghost use Rattle.gerg_fugacity.specs.Fugacity as fug;
 
 pub enum FugacityCheck {
@@ -82,7 +83,7 @@ fn ln_phi(
     ensures { λ r. ⌜ r ≡ fug.lnPhi derivatives (getD (now (g .entry)) (getD (model .«component_indices») k 0) nan) weighted «ln_z» ⌝ }
 {
     let indices = model.component_indices;
-    let at = mixture::wide(indices[k]);
+    let at = numbers::wide(indices[k]);
     derivatives.ar + derivatives.ar_d + g[at] - weighted - ln_z
 }
 

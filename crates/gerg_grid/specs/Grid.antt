@@ -8,7 +8,7 @@ use lib.Ieee.{Float, nan, binary64, lt, le, eq, ofInt}
 use lib.ListN.{length, getD}
 use Rattle.numerics.specs.Double.{_⊕_, _⊖_, _⊗_, _⊘_, bits, pick}
 use Rattle.numerics.specs.Iterate.{iter}
-use Rattle.elementary.specs.Exp.{expOf}
+use Rattle.elementary_exp.specs.Exp.{expOf}
 use Rattle.elementary_ln.specs.Ln.{lnOf}
 
 -- 0.001 and 30000 mol/m³

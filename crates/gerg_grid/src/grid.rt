@@ -1,7 +1,7 @@
 // The grid of densities, in mol/m³.
 
 use crate::GridPoints;
-use elementary::exp;
+use elementary_exp::exp;
 use elementary_ln::ln;
 ghost use mathlib.Core.Path.{_≡_};
 ghost use mathlib.Core.Bool.{true};

@@ -17,8 +17,8 @@ use Rattle.elementary.specs.Power.{powfOf, powiByteOf}
 use Rattle.elementary.specs.Hyperbolic.{sinhOf, coshOf, tanhOf}
 use Rattle.gerg_tables.specs.declared.Tables.{Tables}
 use Rattle.gerg_tables.specs.Tables.{n0i, th0i, toik, tijk, kpol, kexp, mNumb, kpolij, kexpij}
-use Rattle.gerg_model.specs.declared.GergModel.{GergModel}
-use Rattle.gerg_model.specs.Mixture.{absent, tauOf}
+use Rattle.gerg_reducing.specs.declared.GergModel.{GergModel}
+use Rattle.gerg_reducing.specs.Reduced.{absent, tauOf}
 use Rattle.gerg_isotherm.specs.declared.Temperature.{Temperature}
 
 -- the logarithms are those of the temperature and of tau

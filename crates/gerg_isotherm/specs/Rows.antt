@@ -9,7 +9,7 @@ use lib.ListN.{getD}
 use Rattle.numerics.specs.Double.{_⊘_, +0}
 use Rattle.gerg_tables.specs.declared.Tables.{Tables}
 use Rattle.gerg_tables.specs.Tables.{n0i, th0i, kpol, kexp, mNumb, kpolij, kexpij}
-use Rattle.gerg_model.specs.Mixture.{absent}
+use Rattle.gerg_reducing.specs.Reduced.{absent}
 use Rattle.gerg_isotherm.specs.Isotherm.{pureCell, departureCell, baseCell, sinhCellOf, coshCellOf}
 
 -- n cells from a place on hold f 0, f 1, ..

@@ -3,4 +3,3 @@ pub mod MixtureCheck
 pub mod Accepted
 pub mod MixtureNumbers
 pub mod Mixture
-pub mod Listed

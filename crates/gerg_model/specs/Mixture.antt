@@ -3,30 +3,16 @@ use mathlib.Core.Bool.{Bool, not, _&&_}
 use mathlib.Core.List.{List, []}
 use Prim.Native.Nat.{ℕ, _-_}
 use lib.Dec.{eqb}
-use lib.Ieee.{Float, nan, eq, lt}
+use lib.Ieee.{Float, nan, lt}
 use lib.Ieee.Scale.{finite}
 use lib.ListN.{length, getD, set, replicate}
-use Rattle.numerics.specs.Double.{_⊕_, _⊗_, _⊘_, bits, +0}
+use Rattle.numerics.specs.Double.{_⊕_, _⊗_, _⊘_, +0}
 use Rattle.numerics.specs.Iterate.{iter}
 use Rattle.gerg_tables.specs.Tables.{mmiGerg}
 use Rattle.gerg_model.specs.MixtureCheck.{firstPlace}
-use Rattle.gerg_model.specs.declared.GergModel.{GergModel}
+use Rattle.gerg_reducing.specs.declared.GergModel.{GergModel}
 use Rattle.gerg_reducing.specs.Reducing.{reducing}
-
--- 1000.0
-abbrev pub thousand : Float
-thousand = bits 0x408f_4000_0000_0000
-
--- "−0 counts as zero"
-abbrev pub absent : Float → Bool
-absent x = eq x +0
-
--- the reduced density and the inverse reduced temperature
-abbrev pub deltaOf : GergModel → Float → Float
-deltaOf m rho = rho ⊘ m .«reducing_density»
-
-abbrev pub tauOf : GergModel → Float → Float
-tauOf m temperature = m .«reducing_temperature» ⊘ temperature
+use Rattle.gerg_reducing.specs.Reduced.{thousand}
 
 -- the mole fraction of each of the 21 components: that of the place that lists it, else 0
 unfoldable pub byComponent : List ℕ → List Float → List Float

@@ -1,13 +1,13 @@
 // The mixture: component list and fractions (rows 3 and 4), the model, and row 5.
 
-use super::GergModel;
+use gerg_reducing::GergModel;
 use gerg_reducing::reducing;
 use gerg_tables::named;
+use gerg_tables::numbers;
 ghost use mathlib.Core.Path.{_≡_};
-ghost use mathlib.Core.Bool.{_||_, not};
+ghost use mathlib.Core.Bool.{not};
 ghost use Prim.Native.Nat.{_≤_, _<_};
 ghost use lib.Dec.{eqb};
-ghost use lib.Ieee.{nan};
 ghost use lib.Ieee.Scale.{finite};
 ghost use lib.ListN.{length, getD};
 ghost use Rattle.gerg_model.specs.MixtureCheck as check;
@@ -18,20 +18,6 @@ pub enum MixtureCheck {
     Sound,
     // the refusal's number and value
     Refused { number: u8, value: usize },
-}
-
-pub fn wide(x: u8) -> usize
-    ensures { λ r. ⌜ r ≡ x ⌝ }
-{
-    x as usize
-}
-
-// Whether x is neither an infinity nor a NaN: only then is x - x a number.
-pub fn is_finite(x: f64) -> bool
-    ensures { λ r. ⌜ r ≡ finite x ⌝ }
-{
-    let d = x - x;
-    d == d
 }
 
 // The first of k places that holds the number, or k.
@@ -76,7 +62,7 @@ fn bad_fraction(fractions: &[f64], k: usize) -> bool
     ensures { λ r. ⌜ r ≡ check.badFraction (now (fractions .entry)) k ⌝ }
 {
     let x = fractions[k];
-    !is_finite(x) | (x < 0.0)
+    !numbers::is_finite(x) | (x < 0.0)
 }
 
 fn first_bad_fraction(fractions: &[f64]) -> usize
@@ -157,7 +143,7 @@ fn by_component(list: &[u8], fractions: &[f64]) -> [f64; 21]
     let mut x = [0.0; 21];
     let mut k = 0;
     while k < list.len() {
-        x[wide(list[k]) - 1] = fractions[k];
+        x[numbers::wide(list[k]) - 1] = fractions[k];
         k += 1;
     }
     x
@@ -213,7 +199,7 @@ pub fn first_nonfinite(values: &[f64; 21], n: usize) -> usize
 {
     let mut k = 0;
     while k < n {
-        if !is_finite(values[k]) {
+        if !numbers::is_finite(values[k]) {
             return k;
         }
         k += 1;
@@ -229,9 +215,9 @@ pub fn reducing_sound(model: GergModel, gradients: &[[f64; 21]; 2]) -> bool
     let density = model.reducing_density;
     let volume_end = first_nonfinite(&gradients[0], 21);
     let temperature_end = first_nonfinite(&gradients[1], 21);
-    is_finite(temperature)
+    numbers::is_finite(temperature)
         & (temperature > 0.0)
-        & is_finite(density)
+        & numbers::is_finite(density)
         & (density > 0.0)
         & (volume_end == 21)
         & (temperature_end == 21)

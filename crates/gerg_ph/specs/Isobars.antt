@@ -5,12 +5,12 @@ use mathlib.Core.List.{List}
 use Prim.Native.Nat.{_<_}
 use lib.Ieee.{Float}
 use Rattle.gerg_tables.specs.declared.Tables.{Tables}
-use Rattle.gerg_model.specs.Listed.{Listed}
-use Rattle.gerg_flash.specs.Roots.{beyondFive}
-use Rattle.gerg_ph.specs.Checks.{positivePlace}
+use Rattle.gerg_reducing.specs.Listed.{Listed}
+use Rattle.gerg_root_list.specs.RootList.{beyondFive}
+use Rattle.gerg_saturation.specs.Checks.{positivePlace}
 use Rattle.gerg_ph.specs.Saturation.{verdictAt}
 use Rattle.gerg_ph.specs.declared.Isobar.{Isobar}
-use Rattle.gerg_ph.specs.declared.Verdict.{Verdict}
+use Rattle.gerg_saturation.specs.declared.Verdict.{Verdict}
 
 -- what has been tested before a temperature is tried
 pub record Tested (i : Isobar) : Type 0 where

@@ -2,47 +2,18 @@
 use mathlib.Core.List.{List, []}
 use Prim.Native.Nat.{ℕ, _-_}
 use lib.Dec.{eqb}
-use lib.Ieee.{Float, nan, lt, le, eq, neg}
+use lib.Ieee.{Float}
 use lib.ListN.{length, getD}
-use Rattle.numerics.specs.Double.{_⊖_, _⊘_, bits, +0, one, pick}
+use Rattle.numerics.specs.Double.{pick}
 use Rattle.gerg_tables.specs.declared.Tables.{Tables}
-use Rattle.gerg_model.specs.declared.GergModel.{GergModel}
+use Rattle.gerg_reducing.specs.declared.GergModel.{GergModel}
 use Rattle.gerg.specs.declared.Range.{Range}
-use Rattle.gerg_flash.specs.Roots.{Kept, beyondFive, withinEnvelope, searchedOf}
-use Rattle.gerg_ph.specs.Checks.{positivePlace}
-use Rattle.gerg_ph.specs.declared.PureSaturation.{PureSaturation}
-use Rattle.gerg_ph.specs.declared.Sample.{Sample}
-use Rattle.gerg_ph.specs.declared.Sample.the-variants as sampled
-use Rattle.gerg_ph.specs.declared.Verdict.{Verdict}
-use Rattle.gerg_ph.specs.declared.Verdict.the-variants.{Accepted, Apart, Refused}
-
--- |x|: of either zero +0
-unfoldable pub magnitudeOf : Float → Float
-magnitudeOf x = pick (lt x +0) (neg x) (pick (eq x +0) +0 x)
-
--- the sign of a single root: −1 for a liquid, denser than the reducing density, else 1
-unfoldable pub signOf : Float → List Float → Float
-signOf reducing-density head = pick (lt reducing-density (getD head 0 nan)) (neg one) one
-
--- "gives the numbers of `PureSaturation` (saturation.rs)", from the numbers of the two roots (density, pressure, Z, Gibbs energy) and their ln φ
-unfoldable pub saturationOf : Float → Float → List Float → Float → List Float → Float → PureSaturation
-saturationOf temperature pressure liquid liquid-ln-phi vapor vapor-ln-phi = record {
-  «temperature_k» = temperature;
-  «pressure_pa» = pressure;
-  «liquid_compressibility» = getD liquid 2 nan;
-  «vapor_compressibility» = getD vapor 2 nan;
-  «liquid_molar_volume» = one ⊘ getD liquid 0 nan;
-  «vapor_molar_volume» = one ⊘ getD vapor 0 nan;
-  «ln_fugacity_coefficient» = vapor-ln-phi;
-  «fugacity_residual» = magnitudeOf (liquid-ln-phi ⊖ vapor-ln-phi);
-  iterations = 0;
-}
-
--- the difference is that of the liquid's ln φ and the vapor's at `place`, which is the positive fraction's
-unfoldable pub coexistingOf : ℕ → Float → Float → List Float → List Float → List Float → List Float → Sample
-coexistingOf place temperature pressure liquid liquid-coefficients vapor vapor-coefficients =
-    sampled.Coexisting (getD liquid-coefficients place nan ⊖ getD vapor-coefficients place nan)
-    (saturationOf temperature pressure liquid (getD liquid-coefficients place nan) vapor (getD vapor-coefficients place nan))
+use Rattle.gerg_root_list.specs.RootList.{Kept, beyondFive, withinEnvelope}
+use Rattle.gerg_flash.specs.Roots.{searchedOf}
+use Rattle.gerg_saturation.specs.Checks.{positivePlace}
+use Rattle.gerg_saturation.specs.declared.Sample.{Sample}
+use Rattle.gerg_saturation.specs.declared.Sample.the-variants as sampled
+use Rattle.gerg_saturation.specs.Coexistence.{signOf, coexistingOf}
 
 -- a refusal of the roots; "no exterior root": 23; a single root; else the vapor is the first and the liquid the last
 unfoldable pub rootsSample : Float → ℕ → Float → Float → Kept → Sample
@@ -59,13 +30,3 @@ unfoldable pub sampleOf : Tables → GergModel → List (List Float) → Range �
 sampleOf t m gradients range pressure temperature =
     pick (beyondFive m) (sampled.Refused 20)
     (pick (withinEnvelope temperature pressure) (rootsSample (m .«reducing_density») (positivePlace m) temperature pressure (searchedOf t m gradients range temperature pressure)) (sampled.Refused 21))
-
--- 1e-12
-abbrev pub mostResidual : Float
-mostResidual = bits 0x3d71_9799_812d_ea11
-
--- accepted: a saturation whose residual is at most 1e-12
-unfoldable pub verdictOf : Sample → Verdict
-verdictOf (sampled.Single sign) = Apart sign
-verdictOf (sampled.Coexisting difference s) = pick (le (s .«fugacity_residual») mostResidual) (Accepted s) (Apart difference)
-verdictOf (sampled.Refused n) = Refused n

@@ -4,15 +4,16 @@ use Prim.Native.Nat.{ℕ}
 use lib.Ieee.{Float}
 use Rattle.numerics.specs.Double.{pick}
 use Rattle.gerg_tables.specs.declared.Tables.{Tables}
-use Rattle.gerg_model.specs.declared.GergModel.{GergModel}
+use Rattle.gerg_reducing.specs.declared.GergModel.{GergModel}
 use Rattle.gerg.specs.declared.Range.{Range}
-use Rattle.gerg_ph.specs.Checks.{saturationRefused}
-use Rattle.gerg_ph.specs.Sampling.{sampleOf, verdictOf}
-use Rattle.gerg_ph.specs.Halvings.{searchOf, trialsOf}
-use Rattle.gerg_ph.specs.declared.Interval.{Interval}
-use Rattle.gerg_ph.specs.declared.Verdict.{Verdict}
-use Rattle.gerg_ph.specs.declared.SaturationAnswer.{SaturationAnswer}
-use Rattle.gerg_ph.specs.declared.SaturationAnswer.the-variants.{Refused}
+use Rattle.gerg_saturation.specs.Checks.{saturationRefused}
+use Rattle.gerg_saturation.specs.Coexistence.{verdictOf}
+use Rattle.gerg_ph.specs.Sampling.{sampleOf}
+use Rattle.gerg_saturation.specs.Halvings.{searchOf, trialsOf}
+use Rattle.gerg_saturation.specs.declared.Interval.{Interval}
+use Rattle.gerg_saturation.specs.declared.Verdict.{Verdict}
+use Rattle.gerg_saturation.specs.declared.SaturationAnswer.{SaturationAnswer}
+use Rattle.gerg_saturation.specs.declared.SaturationAnswer.the-variants.{Refused}
 
 -- the verdict at a temperature
 unfoldable pub verdictAt : Tables → GergModel → List (List Float) → Range → Float → Float → Verdict

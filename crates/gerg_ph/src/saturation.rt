@@ -1,44 +1,26 @@
 // The saturation temperature: the rows that need no root, the two ends, and the halvings between them.
 
 use crate::Isobar;
-use crate::Options;
-use crate::PureSaturation;
-use crate::SaturationAnswer;
-use crate::Verdict;
-use crate::checks;
-use crate::halving;
+use gerg_saturation::ends;
 use crate::sampling;
 use gerg::Range;
-use gerg_flash::roots;
 use gerg_grid::grid;
-use gerg_model::GergModel;
+use gerg_reducing::GergModel;
+use gerg_root_list::envelope;
+use gerg_saturation::Options;
+use gerg_saturation::SaturationAnswer;
+use gerg_saturation::Verdict;
+use gerg_saturation::checks;
+use gerg_saturation::coexistence;
+use gerg_saturation::halving;
 ghost use mathlib.Core.Path.{_≡_};
 ghost use Rattle.gerg_tables.specs.Tables.{tables, Shaped};
-ghost use Rattle.gerg_model.specs.Listed.{Listed};
+ghost use Rattle.gerg_reducing.specs.Listed.{Listed};
 ghost use Rattle.gerg_grid.specs.GridArray.{HoldsGrid};
-ghost use Rattle.gerg_ph.specs.Halvings.{halvingsOf, endsOf, searchOf};
+ghost use Rattle.gerg_saturation.specs.Halvings.{halvingsOf, endsOf, searchOf};
 ghost use Rattle.gerg_ph.specs.Isobars.{Tested, verdictAlong};
 ghost use Rattle.gerg_ph.specs.Saturation.{pureSaturationOf};
-ghost use Rattle.gerg_ph.specs.declared.SaturationAnswer as answers;
-ghost use Rattle.gerg_ph.specs.declared.SaturationAnswer.the-variants as answer;
-ghost use Rattle.gerg_ph.specs.declared.Verdict.the-variants as verdict;
-
-// A row whose value is 0.
-fn refusal(number: u8) -> SaturationAnswer
-    ensures { λ r. ⌜ r ≡ answer.Refused number 0 ⌝ }
-{
-    SaturationAnswer::Refused { number, value: 0 }
-}
-
-// Row 26, whose value is the number of trials.
-fn not_converged(trials: usize) -> SaturationAnswer
-    ensures { λ r. ⌜ r ≡ answer.Refused 26 trials ⌝ }
-{
-    SaturationAnswer::Refused {
-        number: 26,
-        value: trials,
-    }
-}
+ghost use Rattle.gerg_saturation.specs.declared.Verdict.the-variants as verdict;
 
 fn verdict_at<'a>(
     points: &'a [f64; 386],
@@ -52,7 +34,7 @@ fn verdict_at<'a>(
     requires { ⌜ HoldsGrid (now points) count × Shaped (tables (now doubles) (now integers)) × Tested isobar ⌝ }
     ensures { λ r. ⌜ r ≡ verdictAlong (tables (now (doubles .entry)) (now (integers .entry))) (now (gradients .entry)) isobar temperature ⌝ }
 {
-    sampling::verdict(sampling::sample(
+    coexistence::verdict(sampling::sample(
         points,
         count,
         doubles,
@@ -89,27 +71,16 @@ fn halvings<'a>(
             Verdict::Accepted(s) => {
                 return SaturationAnswer::Found(halving::with_iterations(k, s));
             }
-            Verdict::Refused(number) => return refusal(number),
+            Verdict::Refused(number) => return ends::refusal(number),
             Verdict::Apart(difference) => {
                 if halving::on_end(b, x) {
-                    return not_converged(trials);
+                    return ends::not_converged(trials);
                 }
                 b = halving::narrowed(b, x, difference);
             }
         }
     }
-    not_converged(trials)
-}
-
-// The low end is accepted: it is the answer unless the high end is refused.
-fn low_accepted(s: PureSaturation, right: Verdict) -> SaturationAnswer
-    ensures { λ r. ⌜ ((inner : answers.SaturationAnswer) → r ≡ endsOf (verdict.Accepted s) right inner) ⌝ }
-{
-    match right {
-        Verdict::Refused(number) => refusal(number),
-        Verdict::Accepted(_) => SaturationAnswer::Found(s),
-        Verdict::Apart(_) => SaturationAnswer::Found(s),
-    }
+    ends::not_converged(trials)
 }
 
 // The low end is apart: the high end, whether the ends enclose a saturation, then the halvings.
@@ -130,7 +101,7 @@ fn low_apart<'a>(
     let b = options.interval;
     let v = verdict_at(points, count, doubles, integers, gradients, isobar, b.hi);
     match v {
-        Verdict::Refused(number) => refusal(number),
+        Verdict::Refused(number) => ends::refusal(number),
         Verdict::Accepted(s) => SaturationAnswer::Found(s),
         Verdict::Apart(right) => {
             if (left > 0.0) | (right < 0.0) {
@@ -157,10 +128,10 @@ fn search<'a>(
     let b = options.interval;
     let v = verdict_at(points, count, doubles, integers, gradients, isobar, b.lo);
     match v {
-        Verdict::Refused(number) => refusal(number),
+        Verdict::Refused(number) => ends::refusal(number),
         Verdict::Accepted(s) => {
             let right = verdict_at(points, count, doubles, integers, gradients, isobar, b.hi);
-            low_accepted(s, right)
+            ends::low_accepted(s, right)
         }
         Verdict::Apart(left) => low_apart(
             left,
@@ -192,11 +163,11 @@ pub fn pure_saturation<'a>(
     let b = options.interval;
     let p = checks::positive(model);
     let unfit = checks::refused(p.count, b.lo, b.hi);
-    let beyond = roots::beyond_five(model);
-    let within = roots::within_envelope(b.lo, pressure);
+    let beyond = envelope::beyond_five(model);
+    let within = envelope::within_envelope(b.lo, pressure);
     let number = checks::first_row(unfit, beyond, within);
     if number != 0 {
-        return refusal(number);
+        return ends::refusal(number);
     }
     let g = grid::grid();
     let grid = g.points;

@@ -6,14 +6,14 @@ use Prim.Native.Nat.{ℕ}
 use native.Mathlib.Omega.{arith}
 use borrow.Author.Tests.{ne-eqb}
 use lib.Ieee.{Float}
-use Rattle.gerg_tables.specs.declared.Answer.{Answer}
-use Rattle.gerg_tables.specs.declared.Answer.the-variants as file
-use Rattle.gerg_tables.specs.declared.TableFile.{TableFile}
-use Rattle.gerg_tables.specs.Answer.{answerOf, tablesOf}
-use Rattle.gerg_tables.specs.TableFile.{tableFileOf}
+use Rattle.gerg_coefficients.specs.declared.Answer.{Answer}
+use Rattle.gerg_coefficients.specs.declared.Answer.the-variants as file
+use Rattle.gerg_coefficients.specs.declared.TableFile.{TableFile}
+use Rattle.gerg_coefficients.specs.Answer.{answerOf, tablesOf}
+use Rattle.gerg_coefficients.specs.TableFile.{tableFileOf}
 use Rattle.gerg_tables.specs.Tables.{tables, Shaped}
-use Rattle.gerg_tables.proofs.Shaped.{accepted-shaped}
-use Rattle.gerg_model.specs.declared.GergModel.{GergModel}
+use Rattle.gerg_coefficients.proofs.Shaped.{accepted-shaped}
+use Rattle.gerg_reducing.specs.declared.GergModel.{GergModel}
 use Rattle.gerg_model.specs.declared.mixture.MixtureCheck.{MixtureCheck}
 use Rattle.gerg_model.specs.declared.mixture.MixtureCheck.the-variants as mixture
 use Rattle.gerg_model.specs.MixtureCheck.{checkOf}
@@ -22,14 +22,14 @@ use Rattle.gerg_model.proofs.Laws.Accepted.{accepted, listed}
 use Rattle.gerg_model.proofs.Laws.Numbers.{mixture-refused}
 use Rattle.gerg_model.specs.Mixture.{modelOf, reducingSound}
 use Rattle.gerg_reducing.specs.Reducing.{gradientsOf}
-use Rattle.gerg_model.specs.Listed.{Listed}
+use Rattle.gerg_reducing.specs.Listed.{Listed}
 use Rattle.gerg_prepared.specs.Mixed.{refusedMixture, soundMixture, reducedMixture, checkedMixture, checkedFrom, afterFile, mixedFrom, mixedOf, afterRows, memoryRows}
 use Rattle.gerg_prepared.specs.declared.Mixed.{Mixed}
 use Rattle.gerg_prepared.specs.declared.Refusal.{Refusal}
 use Rattle.gerg_prepared.specs.declared.Refusal.the-variants.{Nothing, Refused}
 
 -- a refusal is none that says nothing
-refused-never : {A : Type 0} (number value : ℕ) → refusedMixture number value .refusal ≡ Nothing → A
+pub refused-never : {A : Type 0} (number value : ℕ) → refusedMixture number value .refusal ≡ Nothing → A
 unfolding refusedMixture
 refused-never number value e = absurd (let z : _≡_ {A = ℕ} 0 1 = cc in omega arith)
 

@@ -7,9 +7,9 @@ use native.Mathlib.Omega.{arith}
 use lib.Dec.{eqb}
 use lib.Ieee.{Float}
 use Rattle.numerics.specs.Double.{pick}
-use Rattle.gerg_tables.specs.Answer as File
-use Rattle.gerg_tables.specs.Answer.{answerOf, tablesOf}
-use Rattle.gerg_tables.proofs.Bounds.{file-at-most-2, file-value-at-most}
+use Rattle.gerg_coefficients.specs.Answer as File
+use Rattle.gerg_coefficients.specs.Answer.{answerOf, tablesOf}
+use Rattle.gerg_coefficients.proofs.Bounds.{file-at-most-2, file-value-at-most}
 use Rattle.gerg_model.specs.MixtureNumbers as Check
 use Rattle.gerg_model.specs.MixtureCheck.{checkOf}
 use Rattle.gerg_model.specs.Mixture.{modelOf, reducingSound}

@@ -1,14 +1,14 @@
 -- Rows 1 to 5, which every public call meets first, in their order, and the model of a mixture that passes them.
-use mathlib.Core.List.{List, []}
+use mathlib.Core.List.{List, [], _∷_}
 use Prim.Native.Nat.{ℕ}
 use lib.Dec.{eqb}
 use lib.Ieee.{Float}
 use lib.ListN.{getD, replicate}
 use Rattle.numerics.specs.Double.{+0, pick}
-use Rattle.gerg_tables.specs.declared.Answer.{Answer}
-use Rattle.gerg_tables.specs.Answer as File
-use Rattle.gerg_tables.specs.Answer.{answerOf, tablesOf}
-use Rattle.gerg_model.specs.declared.GergModel.{GergModel}
+use Rattle.gerg_coefficients.specs.declared.Answer.{Answer}
+use Rattle.gerg_coefficients.specs.Answer as File
+use Rattle.gerg_coefficients.specs.Answer.{answerOf, tablesOf}
+use Rattle.gerg_reducing.specs.declared.GergModel.{GergModel}
 use Rattle.gerg_model.specs.declared.mixture.MixtureCheck.{MixtureCheck}
 use Rattle.gerg_model.specs.MixtureNumbers as Check
 use Rattle.gerg_model.specs.MixtureCheck.{checkOf}
@@ -78,6 +78,10 @@ numberOf (Refused number value) = number
 abbrev pub valueOf : Refusal → ℕ
 valueOf Nothing = 0
 valueOf (Refused number value) = value
+
+-- the two rows of gradients
+abbrev pub gradientRows : Mixed → List (List Float)
+gradientRows m = m .«volume_gradient» ∷ m .«temperature_gradient» ∷ []
 
 -- rows 1 to 5, then what follows; `refused` makes the answer's own refusal of a number and a value
 unfoldable pub afterRows : {A : Type 0} → (ℕ → ℕ → A) → Refusal → A → A

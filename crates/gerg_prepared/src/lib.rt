@@ -1,5 +1,5 @@
 // A prepared model: what rows 1 to 5 make of the coefficient file's tables, the component list and the fractions. It passes only between layers.
-use gerg_model::GergModel;
+use gerg_reducing::GergModel;
 
 pub mod rows;
 

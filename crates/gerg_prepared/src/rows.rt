@@ -1,11 +1,11 @@
 // Rows 1 to 5, in their order.
 use crate::Mixed;
 use crate::Refusal;
-use gerg_model::GergModel;
+use gerg_coefficients::Answer;
 use gerg_model::mixture;
 use gerg_model::mixture::MixtureCheck;
+use gerg_reducing::GergModel;
 use gerg_reducing::gradients;
-use gerg_tables::Answer;
 ghost use mathlib.Core.Path.{_≡_};
 ghost use Rattle.gerg_model.specs.Accepted.{Accepted};
 ghost use Rattle.gerg_prepared.specs.Mixed as is;

@@ -1,2 +1,4 @@
 -- The reducing values of a mixture and their gradients.
 pub mod Reducing
+pub mod Reduced
+pub mod Listed

@@ -1,6 +1,2 @@
--- What a scan keeps: its numbers, how many roots it finds, and that they rise.
-pub mod ScanSteps
-pub mod ScanFew
-pub mod ScanNumbers
-pub mod HalvingStays
-pub mod ScanRises
+-- By what numbers a scan refuses.
+pub mod SampleNumbers

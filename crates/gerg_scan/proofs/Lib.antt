@@ -1,2 +1,2 @@
--- What a scan keeps: its numbers, how many roots it finds, and that they rise.
+-- By what numbers a scan refuses.
 pub mod Laws

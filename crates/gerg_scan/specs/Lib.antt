@@ -1,6 +1,3 @@
--- The scan of an isotherm: the sample at a density, the halvings of a crossing, and the roots that are found.
-pub mod Halving
-pub mod Scan
-pub mod ScanArrays
+-- The sample of an isotherm at a density, and what is sought.
 pub mod Sampling
 pub mod Sought

@@ -2,15 +2,15 @@
 use lib.Ieee.{Float}
 use Rattle.numerics.specs.Double.{_⊕_, _⊖_, _⊗_, one, two}
 use Rattle.gerg_tables.specs.declared.Tables.{Tables}
-use Rattle.gerg_model.specs.declared.GergModel.{GergModel}
+use Rattle.gerg_reducing.specs.declared.GergModel.{GergModel}
 use Rattle.gerg.specs.declared.Range.{Range}
-use Rattle.gerg_terms.specs.declared.derivatives.GergDerivatives.{GergDerivatives}
+use Rattle.gerg_derivatives.specs.declared.derivatives.GergDerivatives.{GergDerivatives}
 use Rattle.gerg.specs.declared.helmholtz.HelmholtzAnswer.{HelmholtzAnswer}
 use Rattle.gerg.specs.declared.helmholtz.HelmholtzAnswer.the-variants as derived
 use Rattle.gerg.specs.Evaluate.{gasConstant}
 use Rattle.gerg.specs.Helmholtz.{helmholtzOf}
-use Rattle.gerg_scan.specs.declared.Sample.{Sample}
-use Rattle.gerg_scan.specs.declared.Sample.the-variants.{Value, Refused}
+use Rattle.gerg_scan_steps.specs.declared.Sample.{Sample}
+use Rattle.gerg_scan_steps.specs.declared.Sample.the-variants.{Value, Refused}
 use Rattle.gerg.specs.HelmholtzNumbers as helmholtz
 
 -- rho × rt × (1 + ar_d) − target, and rt × (1 + 2 ar_d + ar_dd), rt being R × T

@@ -4,7 +4,7 @@ use lib.Ieee.{Float}
 use Rattle.gerg_tables.specs.declared.Tables.{Tables}
 use Rattle.gerg_isotherm.specs.Isotherm.{isothermOf}
 use Rattle.gerg_scan.specs.Sampling.{sampleOf}
-use Rattle.gerg_scan.specs.declared.Sample.{Sample}
+use Rattle.gerg_scan_steps.specs.declared.Sample.{Sample}
 use Rattle.gerg_scan.specs.declared.Sought.{Sought}
 
 abbrev pub isothermFor : Tables → Sought → List Float

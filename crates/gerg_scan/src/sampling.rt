@@ -1,24 +1,24 @@
 // The scan over an isotherm: samples, the halving of each crossing, and the loop over the grid.
 
-use crate::Halving;
 use crate::Point;
-use crate::Sample;
-use crate::Scan;
 use crate::Sought;
-use crate::halve;
-use crate::scanning;
 use gerg::evaluate::GERG_GAS_CONSTANT;
 use gerg::helmholtz;
 use gerg::helmholtz::HelmholtzAnswer;
-use gerg_terms::derivatives::GergDerivatives;
+use gerg_derivatives::derivatives::GergDerivatives;
+use gerg_scan_steps::Halving;
+use gerg_scan_steps::Sample;
+use gerg_scan_steps::Scan;
+use gerg_scan_steps::halve;
+use gerg_scan_steps::scanning;
 ghost use mathlib.Core.Path.{_≡_};
 ghost use Prim.Native.Nat.{_+_, _<_, _≤_};
 ghost use lib.ListN.{length, take};
 ghost use Rattle.gerg_tables.specs.Tables.{tables, Shaped};
 ghost use Rattle.gerg_scan.specs.Sampling.{sampleFrom, sampleBy};
-ghost use Rattle.gerg_scan.specs.Halving.{halvedOf, crossingOf};
-ghost use Rattle.gerg_scan.specs.Scan.{crossedOf, scanStep, scanOf};
-ghost use Rattle.gerg_scan.specs.ScanArrays.{Stepped, Ended};
+ghost use Rattle.gerg_scan_steps.specs.Halving.{halvedOf, crossingOf};
+ghost use Rattle.gerg_scan_steps.specs.Scan.{crossedOf, scanStep, scanOf};
+ghost use Rattle.gerg_scan_steps.specs.ScanArrays.{Stepped, Ended};
 ghost use Rattle.gerg_scan.specs.Sought.{isothermFor, sampleFor};
 
 fn sample_from(temperature: f64, target: f64, rho: f64, a: GergDerivatives) -> Sample

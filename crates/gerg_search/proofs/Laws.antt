@@ -4,6 +4,7 @@ pub mod Shrink
 pub mod Neighbours
 pub mod Verdicts
 pub mod Inner
+pub mod Ended
 pub mod Bound
 pub mod Start
 pub mod Course

@@ -1,7 +1,7 @@
 // What is tested before any density is tried (rows 13 and 14).
 
 use crate::Options;
-use gerg_model::mixture::is_finite;
+use gerg_tables::numbers::is_finite;
 ghost use mathlib.Core.Path.{_≡_};
 ghost use Rattle.gerg_search.specs.Checks.{optionsRefused, targetRefused};
 

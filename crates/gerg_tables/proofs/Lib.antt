@@ -1,18 +1,3 @@
--- Laws that the proofs of this crate share.
-pub mod Tests
-pub mod Padded
-pub mod Put
-pub mod Rows
-pub mod Steps
-pub mod Whole
+-- Laws of the check, and what it leaves.
 pub mod Some
-pub mod Cases
-pub mod Lookup
-pub mod Numbers
-pub mod Finite
-pub mod Shaped
-pub mod Examples
-pub mod OfFile
-pub mod Standing
-pub mod Bounds
-pub mod Cut
+pub mod Faults

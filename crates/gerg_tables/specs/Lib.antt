@@ -1,7 +1,3 @@
--- What the coefficient file holds, which files are accepted, and the tables of an accepted one.
+-- The tables, their numbers by name, and the check of row 2.
 pub mod Tables
-pub mod Load
-pub mod Filling
 pub mod Check
-pub mod Answer
-pub mod TableFile

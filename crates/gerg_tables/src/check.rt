@@ -1,19 +1,12 @@
 // Row 2: the check of the tables. Components are counted from 0.
+use crate::numbers::is_finite;
 ghost use mathlib.Core.Path.{_≡_};
 ghost use mathlib.Core.Bool.{true};
 ghost use Prim.Native.Nat.{ℕ, _+_, _-_, _*_, _≤_, _<_};
 ghost use lib.Ieee.{nan};
 ghost use lib.ListN.{getD};
-ghost use lib.Ieee.Scale as Scale;
 ghost use Rattle.gerg_tables.specs.Check as Check;
 ghost use Rattle.gerg_tables.specs.Check.{someFrom};
-
-// A difference of a double and itself is a NaN exactly where the double is not finite, and only a NaN differs from itself.
-fn finite(x: f64) -> bool
-    ensures { λ r. ⌜ r ≡ Scale.finite x ⌝ }
-{
-    x - x == x - x
-}
 
 fn positive(x: f64) -> bool
     ensures { λ r. ⌜ r ≡ Check.positive x ⌝ }
@@ -26,7 +19,7 @@ fn nonfinite(doubles: &[f64; 4086], q: usize, i: usize, j: usize) -> bool
     requires { ⌜ (q < 5) × ((i < 21) × (j < 21)) ⌝ }
     ensures { λ r. ⌜ r ≡ Check.nonfinite (now (doubles .entry)) q i j ⌝ }
 {
-    !finite(doubles[1281 + 105 * i + 5 * j + q])
+    !is_finite(doubles[1281 + 105 * i + 5 * j + q])
 }
 
 fn some_nonfinite_row(doubles: &[f64; 4086], q: usize, i: usize) -> bool
@@ -81,8 +74,8 @@ fn bad_critical(doubles: &[f64; 4086], i: usize) -> bool
     ensures { λ r. ⌜ r ≡ Check.badCritical (now (doubles .entry)) i ⌝ }
 {
     let mass = doubles[2 * i + 1];
-    if finite(doubles[2 * i]) {
-        if finite(mass) {
+    if is_finite(doubles[2 * i]) {
+        if is_finite(mass) {
             return !positive(mass);
         }
     }

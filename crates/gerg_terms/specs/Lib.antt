@@ -1,4 +1,2 @@
--- The nine derivatives and the terms that are added to them.
-pub mod Derivatives
+-- The terms of the nine derivatives and their sums.
 pub mod Terms
-pub mod Powers

@@ -1,36 +1,26 @@
 -- The terms of the nine derivatives and their sums over components, terms and pairs. Order of operations is the Rust's. Components, terms, pairs and departure functions are counted from 0, as in the tables.
-use mathlib.Core.Bool.{Bool, true, false, _||_}
+use mathlib.Core.Bool.{_||_}
 use mathlib.Core.List.{List}
 use Prim.Native.Nat.{ℕ, _+_, _-_}
-use lib.Dec.{eqb, leb, ltb}
+use lib.Dec.{leb, ltb}
 use lib.Ieee.{Float, nan, eq, neg}
 use lib.ListN.{getD}
-use Rattle.numerics.specs.Double.{_⊕_, _⊖_, _⊗_, _⊘_, bits, +0, two, pick}
+use Rattle.numerics.specs.Double.{_⊕_, _⊖_, _⊗_, _⊘_, +0, pick}
 use Rattle.numerics.specs.Iterate.{iter, range}
-use Rattle.elementary.specs.Exp.{expOf}
+use Rattle.elementary_exp.specs.Exp.{expOf}
 use Rattle.elementary_ln.specs.Ln.{lnOf}
 use Rattle.elementary.specs.Power.{powfOf, powiByteOf, signedDoubleOf}
 use Rattle.elementary.specs.Hyperbolic.{sinhOf, coshOf, tanhOf}
 use Rattle.gerg_tables.specs.declared.Tables.{Tables}
 use Rattle.gerg_tables.specs.Tables.{n0i, th0i, noik, toik, fij, cijk, eijk, gijk, nijk, tijk, kpol, kexp, coik, doik, mNumb, kpolij, kexpij, dijk}
-use Rattle.gerg_model.specs.Mixture.{absent, thousand}
-use Rattle.gerg_terms.specs.declared.derivatives.GergDerivatives.{GergDerivatives}
-use Rattle.gerg_terms.specs.declared.pure.Damped.{Damped}
-use Rattle.gerg_terms.specs.declared.departure.Exponent.{Exponent}
-use Rattle.gerg_terms.specs.declared.departure.Departed.{Departed}
-use Rattle.gerg_terms.specs.Derivatives.{termOf}
+use Rattle.gerg_reducing.specs.Reduced.{absent, thousand}
+use Rattle.gerg_derivatives.specs.declared.derivatives.GergDerivatives.{GergDerivatives}
+use Rattle.gerg_derivatives.specs.declared.parts.Exponent.{Exponent}
+use Rattle.gerg_derivatives.specs.Parts.{dampingOf, dampedTerm, idealAdded, idealTaken, departedTerm}
 
 -- the exponent of delta in the damping, 0 among the polynomial terms; "A coik of 0 past kpol is no damping here"
 unfoldable pub dampingExponent : List ℕ → ℕ → ℕ → ℕ
 dampingExponent integers i k = pick (ltb k (kpol integers i)) 0 (coik integers i k)
-
-unfoldable pub dampingOf : Float → ℕ → Float
-dampingOf delta q = pick (eqb q 0) +0 (powiByteOf delta q)
-
--- a term with a damping of exponent q, its powers worked out
-unfoldable pub dampedTerm : Damped → GergDerivatives → GergDerivatives
-dampedTerm p a =
-    termOf a (p .x ⊗ p .n ⊗ p .«delta_power» ⊗ p .«tau_power» ⊗ p .exponential) (p .t) (p .d ⊖ p .q ⊗ p .damping) (neg (p .q ⊗ p .q) ⊗ p .damping)
 
 -- term k of component i, whose fraction is x
 unfoldable pub pureTerm : Tables → Float → Float → Float → ℕ → ℕ → GergDerivatives → GergDerivatives
@@ -51,26 +41,6 @@ pureTerm t x delta tau i k a =
 
 unfoldable pub pureTerms : Tables → Float → Float → Float → ℕ → GergDerivatives → GergDerivatives
 pureTerms t x delta tau i a = iter (pureTerm t x delta tau i) (kpol (t .integers) i + kexp (t .integers) i) a
-
--- a part of the ideal gas: added to a0 and its first derivative, or taken from them; taken from the second derivative
-abbrev pub idealBy : (Float → Float → Float) → Float → Float → Float → GergDerivatives → GergDerivatives
-idealBy by value slope curvature a = record {
-  ar = a .ar;
-  «ar_d» = a .«ar_d»;
-  «ar_dd» = a .«ar_dd»;
-  «ar_t» = a .«ar_t»;
-  «ar_tt» = a .«ar_tt»;
-  «ar_dt» = a .«ar_dt»;
-  a0 = by (a .a0) value;
-  «a0_t» = by (a .«a0_t») slope;
-  «a0_tt» = a .«a0_tt» ⊖ curvature;
-}
-
-unfoldable pub idealAdded : Float → Float → Float → GergDerivatives → GergDerivatives
-idealAdded value slope curvature a = idealBy _⊕_ value slope curvature a
-
-unfoldable pub idealTaken : Float → Float → Float → GergDerivatives → GergDerivatives
-idealTaken value slope curvature a = idealBy _⊖_ value slope curvature a
 
 -- the logarithms and n0i 1 to 3 of component i
 unfoldable pub idealBase : List Float → Float → Float → Float → ℕ → GergDerivatives → GergDerivatives
@@ -105,10 +75,6 @@ idealPart doubles x temperature rho i a =
     (sinhPart doubles x temperature i 0
     (idealBase doubles x temperature rho i a))))
 
--- 4.0
-abbrev pub four : Float
-four = bits 0x4010_0000_0000_0000
-
 -- the exponent c + e + g past kpolij, c and e with their powers of delta; 0 among the polynomial terms
 abbrev pub exponentFrom : Float → Float → Float → Exponent
 exponentFrom c e g = record { c = c; e = e; exponential = expOf (c ⊕ e ⊕ g) }
@@ -117,12 +83,6 @@ unfoldable pub exponentOf : Tables → Float → ℕ → ℕ → Exponent
 exponentOf t delta m k =
     pick (ltb k (kpolij (t .integers) m)) (exponentFrom +0 +0 +0)
     (exponentFrom (cijk (t .doubles) m k ⊗ delta ⊗ delta) (eijk (t .doubles) m k ⊗ delta) (gijk (t .doubles) m k))
-
--- a departure term, its powers worked out; its factor is x_i × x_j × fij
-unfoldable pub departedTerm : Departed → GergDerivatives → GergDerivatives
-departedTerm p a =
-    termOf a (p .factor ⊗ p .n ⊗ p .«delta_power» ⊗ p .«tau_power» ⊗ p .exponent .exponential) (p .t)
-    (p .d ⊕ two ⊗ p .exponent .c ⊕ p .exponent .e) (four ⊗ p .exponent .c ⊕ p .exponent .e)
 
 -- term k of departure function m
 unfoldable pub departureTerm : Tables → Float → Float → Float → ℕ → ℕ → GergDerivatives → GergDerivatives

@@ -1,11 +1,15 @@
 // The departure terms of a component's pairs with the later components.
-use crate::Point;
-use crate::derivatives::GergDerivatives;
-use crate::powers;
-use elementary::exp;
+
 use elementary::power;
-use gerg_model::mixture::wide;
+use elementary_exp::exp;
+use gerg_derivatives::Point;
+use gerg_derivatives::derivatives::GergDerivatives;
+use gerg_derivatives::parts;
+use gerg_derivatives::parts::Departed;
+use gerg_derivatives::parts::Exponent;
+use gerg_derivatives::powers;
 use gerg_tables::named;
+use gerg_tables::numbers::wide;
 ghost use mathlib.Core.Path.{_≡_};
 ghost use mathlib.Core.Bool.{false};
 ghost use Prim.Native.Nat.{_+_, _*_, _<_};
@@ -14,29 +18,11 @@ ghost use lib.ListN.{getD};
 ghost use Rattle.numerics.specs.Iterate.{range};
 ghost use Rattle.gerg_tables.specs.Tables as named;
 ghost use Rattle.gerg_tables.specs.Tables.{tables, Shaped};
-ghost use Rattle.gerg_model.specs.Mixture.{absent};
+ghost use Rattle.gerg_reducing.specs.Reduced.{absent};
 ghost use Rattle.gerg_isotherm.specs.Isotherm as cells;
 ghost use Rattle.gerg_isotherm.specs.Rows.{Row, Rows};
 ghost use Rattle.gerg_terms.specs.Terms as is;
-ghost use Rattle.gerg_terms.specs.Powers.{Worked};
-
-// c delta², e delta, and the exponential of their sum with g.
-pub struct Exponent {
-    pub c: f64,
-    pub e: f64,
-    pub exponential: f64,
-}
-
-// A term's numbers, its powers worked out.
-pub struct Departed {
-    pub factor: f64,
-    pub n: f64,
-    pub delta_power: f64,
-    pub tau_power: f64,
-    pub t: f64,
-    pub d: f64,
-    pub exponent: Exponent,
-}
+ghost use Rattle.gerg_derivatives.specs.Powers.{Worked};
 
 // The departure function of a pair, from 0, and the pair's factor x_i × x_j × fij.
 pub struct PairFunction {
@@ -47,15 +33,6 @@ pub struct PairFunction {
 pub struct Pair {
     pub i: usize,
     pub j: usize,
-}
-
-fn departed_term(a: GergDerivatives, p: Departed) -> GergDerivatives
-    ensures { λ r. ⌜ r ≡ is.departedTerm p a ⌝ }
-{
-    let c = p.exponent.c;
-    let e = p.exponent.e;
-    let v = p.factor * p.n * p.delta_power * p.tau_power * p.exponent.exponential;
-    a.term(v, p.t, p.d + 2.0 * c + e, 4.0 * c + e)
 }
 
 // Among the polynomial terms the exponent is 0 and its exponential 1.
@@ -114,7 +91,7 @@ fn departure_term<'a>(
         d,
         exponent,
     };
-    departed_term(a, numbers)
+    parts::departed_term(a, numbers)
 }
 
 fn departure_terms<'a>(

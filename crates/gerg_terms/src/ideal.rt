@@ -1,37 +1,17 @@
 // The ideal part of a component. What it takes from the temperature alone stands in the isotherm's cells.
-use crate::derivatives::GergDerivatives;
+
+use gerg_derivatives::derivatives::GergDerivatives;
+use gerg_derivatives::parts;
 use gerg_tables::named;
 ghost use mathlib.Core.Path.{_≡_};
 ghost use Prim.Native.Nat.{_+_, _*_, _<_};
-ghost use lib.Ieee.{nan, eq};
-ghost use lib.ListN.{getD};
-ghost use Rattle.numerics.specs.Double.{_⊘_, +0};
+ghost use Rattle.numerics.specs.Double.{_⊘_};
 ghost use Rattle.elementary_ln.specs.Ln.{lnOf};
 ghost use Rattle.gerg_tables.specs.Tables as named;
-ghost use Rattle.gerg_model.specs.Mixture.{thousand};
+ghost use Rattle.gerg_reducing.specs.Reduced.{thousand};
 ghost use Rattle.gerg_terms.specs.Terms as is;
 ghost use Rattle.gerg_isotherm.specs.Isotherm as cells;
 ghost use Rattle.gerg_isotherm.specs.Rows.{Row, PartRow, IdealRows};
-
-fn added(a: GergDerivatives, value: f64, slope: f64, curvature: f64) -> GergDerivatives
-    ensures { λ r. ⌜ r ≡ is.idealAdded value slope curvature a ⌝ }
-{
-    let mut sum = a;
-    sum.a0 = sum.a0 + value;
-    sum.a0_t = sum.a0_t + slope;
-    sum.a0_tt = sum.a0_tt - curvature;
-    sum
-}
-
-fn taken(a: GergDerivatives, value: f64, slope: f64, curvature: f64) -> GergDerivatives
-    ensures { λ r. ⌜ r ≡ is.idealTaken value slope curvature a ⌝ }
-{
-    let mut sum = a;
-    sum.a0 = sum.a0 - value;
-    sum.a0_t = sum.a0_t - slope;
-    sum.a0_tt = sum.a0_tt - curvature;
-    sum
-}
 
 // The logarithms and n0i 1 to 3; `logarithm` is that of rho / 1000.
 fn ideal_base<'a>(
@@ -53,7 +33,7 @@ fn ideal_base<'a>(
     let ln_x = isotherm[at];
     let quotient = isotherm[at + 1];
     let product = isotherm[at + 2];
-    added(
+    parts::added(
         a,
         x * (logarithm + ln_x + n1 + quotient - product),
         x * (n3 + quotient),
@@ -78,7 +58,7 @@ fn sinh_part<'a>(
     if named::th0i(doubles, i, j) == 0.0 {
         return a;
     }
-    added(a, isotherm[at], isotherm[at + 1], isotherm[at + 2])
+    parts::added(a, isotherm[at], isotherm[at + 1], isotherm[at + 2])
 }
 
 // n0i and th0i 5 or 7, of which j is 1 or 3.
@@ -98,7 +78,7 @@ fn cosh_part<'a>(
     if named::th0i(doubles, i, j) == 0.0 {
         return a;
     }
-    taken(a, isotherm[at], isotherm[at + 1], isotherm[at + 2])
+    parts::taken(a, isotherm[at], isotherm[at + 1], isotherm[at + 2])
 }
 
 pub fn ideal_part<'a>(

@@ -1,11 +1,14 @@
 // The pure terms of a component.
-use crate::Point;
+
 use crate::Present;
-use crate::derivatives::GergDerivatives;
-use crate::powers;
 use elementary::power;
-use gerg_model::mixture::wide;
+use gerg_derivatives::Point;
+use gerg_derivatives::derivatives::GergDerivatives;
+use gerg_derivatives::parts;
+use gerg_derivatives::parts::Damped;
+use gerg_derivatives::powers;
 use gerg_tables::named;
+use gerg_tables::numbers::wide;
 ghost use mathlib.Core.Path.{_≡_};
 ghost use Prim.Native.Nat.{_+_, _*_, _<_};
 ghost use lib.Ieee.{nan};
@@ -15,27 +18,7 @@ ghost use Rattle.gerg_tables.specs.Tables.{tables, Shaped};
 ghost use Rattle.gerg_isotherm.specs.Isotherm as cells;
 ghost use Rattle.gerg_isotherm.specs.Rows.{Row};
 ghost use Rattle.gerg_terms.specs.Terms as is;
-ghost use Rattle.gerg_terms.specs.Powers.{Worked};
-
-// A term's numbers, its powers worked out.
-pub struct Damped {
-    pub x: f64,
-    pub n: f64,
-    pub delta_power: f64,
-    pub tau_power: f64,
-    pub exponential: f64,
-    pub t: f64,
-    pub d: f64,
-    pub q: f64,
-    pub damping: f64,
-}
-
-fn damped_term(a: GergDerivatives, p: Damped) -> GergDerivatives
-    ensures { λ r. ⌜ r ≡ is.dampedTerm p a ⌝ }
-{
-    let v = p.x * p.n * p.delta_power * p.tau_power * p.exponential;
-    a.term(v, p.t, p.d - p.q * p.damping, -(p.q * p.q) * p.damping)
-}
+ghost use Rattle.gerg_derivatives.specs.Powers.{Worked};
 
 // The exponent of delta in the damping of term k of component i.
 fn damping_exponent(integers: &[u8; 1631], i: usize, k: usize) -> u8
@@ -84,7 +67,7 @@ fn pure_term<'a>(
         q,
         damping,
     };
-    damped_term(a, numbers)
+    parts::damped_term(a, numbers)
 }
 
 pub fn pure_terms<'a>(

@@ -1,23 +1,23 @@
 // The sums over components, terms and pairs at a temperature and a molar density. Powers of tau come from the isotherm's cells, powers of delta
 // with small exponents from an array made once for the density.
-use crate::Point;
 use crate::Present;
 use crate::departure;
-use crate::derivatives::GergDerivatives;
 use crate::ideal;
-use crate::powers;
 use crate::pure;
 use elementary_ln::ln;
+use gerg_derivatives::Point;
+use gerg_derivatives::derivatives::GergDerivatives;
+use gerg_derivatives::powers;
 ghost use mathlib.Core.Path.{_≡_};
 ghost use Prim.Native.Nat.{_<_};
 ghost use Rattle.numerics.specs.Double.{_⊘_};
 ghost use Rattle.elementary_ln.specs.Ln.{lnOf};
 ghost use Rattle.gerg_tables.specs.Tables.{tables, Shaped};
-ghost use Rattle.gerg_model.specs.Mixture.{thousand};
+ghost use Rattle.gerg_reducing.specs.Reduced.{thousand};
 ghost use Rattle.gerg_isotherm.specs.Rows.{Rows};
-ghost use Rattle.gerg_terms.specs.Derivatives.{zeroDerivatives};
+ghost use Rattle.gerg_derivatives.specs.Derivatives.{zeroDerivatives};
 ghost use Rattle.gerg_terms.specs.Terms as is;
-ghost use Rattle.gerg_terms.specs.Powers.{Worked};
+ghost use Rattle.gerg_derivatives.specs.Powers.{Worked};
 
 // Component i, passed over where its fraction is 0.
 fn component<'a>(

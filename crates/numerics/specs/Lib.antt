@@ -20,6 +20,8 @@ pub mod Fill
 pub mod Match
 -- laws of tests
 pub mod Tests
+-- the value of a test in a definition, from how a call's result was tested
+pub mod CallTests
 -- the test for a finite double, NaN as code meets it, and what the quotients of literals are
 pub mod Finite
 pub mod Nan
@@ -100,6 +102,8 @@ pub mod Examples
 -- ---- searches over doubles
 -- doubles and zero
 pub mod Zero
+-- the difference of a double and itself; products of doubles above zero
+pub mod ZeroDifference
 -- the sign of a rounded (p - q) / c
 pub mod Quotient
 -- doubles above zero as whole numbers of the smallest, and the gap between two of them

@@ -4,6 +4,7 @@ use mathlib.Core.Logic.{_⊎_, inl, inr}
 use mathlib.Core.Bool.{Bool, true, false, not, _&&_, _||_, true≢false, false≢true}
 use lib.Dec.{T}
 use lib.Ieee.{Float, lt, le, eq}
+use Rattle.numerics.specs.Double.{pick}
 use lib.Ieee.Fits.{and-i}
 pub use borrow.Author.Tests.{not-false}
 pub use lib.Ieee.Bits.{is-true}
@@ -14,6 +15,13 @@ holds b e = subst T (sym e) tt
 -- a test that holds and fails
 pub clash : {A : Type 0} {b : Bool} → T b → b ≡ false → A
 clash {A} {b} t e = absurd (subst T e t)
+
+-- ---- a choice
+pub picked-first : {A : Type 0} (b : Bool) (x y : A) → b ≡ true → pick b x y ≡ x
+picked-first b x y e = rw e
+
+pub picked-second : {A : Type 0} (b : Bool) (x y : A) → b ≡ false → pick b x y ≡ y
+picked-second b x y e = rw e
 
 -- ---- one of two
 pub or-false : (a b : Bool) → (a || b) ≡ false → (a ≡ false) × (b ≡ false)

@@ -4,7 +4,7 @@ use Prim.Native.Nat.{ℕ}
 use lib.Ieee.{Float}
 use Rattle.numerics.specs.Double.{bits}
 use Rattle.gerg_tables.specs.declared.Tables.{Tables}
-use Rattle.gerg_tables.specs.Answer.{tablesOf}
+use Rattle.gerg_coefficients.specs.Answer.{tablesOf}
 use Rattle.gerg.specs.declared.Range.{Range}
 use Rattle.gerg.specs.declared.evaluate.EvaluateAnswer.{EvaluateAnswer}
 use Rattle.gerg.specs.declared.evaluate.EvaluateAnswer.the-variants as evaluated

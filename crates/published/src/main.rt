@@ -46,7 +46,7 @@ fn state_from<'a>(
 fn state(file: &[u8], list: &[u8], fractions: &[f64], t: f64, rho: f64) -> EvaluateAnswer
     ensures { λ r. ⌜ r ≡ is.stateOf (now (file .entry)) (now (list .entry)) (now (fractions .entry)) t rho ⌝ }
 {
-    let read = gerg_tables::read_tables(file);
+    let read = gerg_coefficients::read_tables(file);
     let answer = read.answer;
     let mixed = rows::mixed(&read.tables.doubles, answer, list, fractions);
     state_from(&read.tables.doubles, &read.tables.integers, mixed, t, rho)

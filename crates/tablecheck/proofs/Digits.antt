@@ -8,11 +8,11 @@ use borrow.Author.Tests.{lt-ltb, le-ltb}
 use lib.Dec.{ltb}
 use lib.ListN.{length, set, length-append}
 use lib.Seq.{sets}
-use Rattle.gerg_tables.specs.declared.TableFile.{TableFile}
-use Rattle.gerg_tables.specs.Answer.{numberOf, valueOf, answerOf}
-use Rattle.gerg_tables.specs.TableFile.{tableFileOf}
-use Rattle.gerg_tables.proofs.Cases.{read-answer}
-use Rattle.gerg_tables.proofs.Put.{sets-append}
+use Rattle.gerg_coefficients.specs.declared.TableFile.{TableFile}
+use Rattle.gerg_coefficients.specs.Answer.{numberOf, valueOf, answerOf}
+use Rattle.gerg_coefficients.specs.TableFile.{tableFileOf}
+use Rattle.gerg_coefficients.proofs.Cases.{read-answer}
+use Rattle.gerg_coefficients.proofs.Put.{sets-append}
 use Rattle.tablecheck.specs.Line.{decimal, lineFrom, lineOf}
 
 pub positive : (n : ℕ) → (n ≡ 0 → ⊥) → 0 < n

@@ -3,8 +3,8 @@ use mathlib.Core.Bool.{cond}
 use mathlib.Core.List.{List, [], _∷_, _++_}
 use Prim.Native.Nat.{ℕ, zero, suc, _+_, _/_, _%_}
 use lib.Dec.{ltb}
-use Rattle.gerg_tables.specs.declared.Answer.{Answer}
-use Rattle.gerg_tables.specs.Answer.{numberOf, valueOf}
+use Rattle.gerg_coefficients.specs.declared.Answer.{Answer}
+use Rattle.gerg_coefficients.specs.Answer.{numberOf, valueOf}
 
 -- the decimal digits of a number below 10^k, the highest first
 unfoldable pub decimal : ℕ → ℕ → List ℕ

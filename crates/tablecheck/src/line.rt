@@ -3,7 +3,7 @@ ghost use mathlib.Core.Path.{_≡_};
 ghost use Prim.Native.Nat.{_+_, _≤_};
 ghost use lib.ListN.{length};
 ghost use lib.Seq.{sets};
-ghost use Rattle.gerg_tables.specs.Answer.{answerOf};
+ghost use Rattle.gerg_coefficients.specs.Answer.{answerOf};
 ghost use Rattle.tablecheck.specs.Line.{decimal, lineFrom, lineOf};
 
 // n in decimal, by at most k digits, stored from `at` on; the place past the last of them.
@@ -38,7 +38,7 @@ fn put_line(number: u64, value: u64, out: &mut [u8; 42]) -> usize
 pub fn line(file: &[u8], out: &mut [u8; 42]) -> usize
     ensures { λ r. ⌜ (now (out .exit) ≡ sets (now (out .entry)) 0 (lineOf (answerOf (now (file .entry))))) × ((r ≡ length (lineOf (answerOf (now (file .entry))))) × (r ≤ 42)) ⌝ }
 {
-    let read = gerg_tables::read_tables(file);
+    let read = gerg_coefficients::read_tables(file);
     let answer = read.answer;
     let number = answer.number();
     let value = answer.value();

@@ -10,7 +10,7 @@ fn print(text: [u8; 42], length: usize)
     io::write_all(1, &text[..length]);
 }
 
-// One byte more than the longest file: what lies beyond changes no answer (`gerg_tables: Cut.cut-answer`), so it is not read.
+// One byte more than the longest file: what lies beyond changes no answer (`gerg_coefficients: Cut.cut-answer`), so it is not read.
 fn main() {
     let mut buffer = [0u8; 28378];
     let n = io::read_full(0, &mut buffer);

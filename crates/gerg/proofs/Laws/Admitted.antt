@@ -1,23 +1,22 @@
 -- What an accepted answer says: every test of rows 6 to 12 was passed, and the numbers are those of the definitions. Assumes nothing.
-use mathlib.Core.Bool.{Bool, true, false, not, _||_, true≢false}
-use mathlib.Core.Path.{_≡_, refl, sym, ap, _∙_}
+use mathlib.Core.Bool.{Bool, true, false, not}
+use mathlib.Core.Path.{_≡_, refl, ap, _∙_}
 use Prim.Native.Nat.{ℕ}
 use native.Mathlib.Omega.{arith}
 use lib.Ieee.{Float, le}
 use lib.Ieee.Scale.{finite}
-use borrow.Author.Tests.{not-false}
+use Rattle.numerics.specs.Tests.{or-false}
 use Rattle.numerics.specs.Double.{+0, pick}
 use Rattle.gerg_tables.specs.declared.Tables.{Tables}
-use Rattle.gerg_model.specs.declared.GergModel.{GergModel}
+use Rattle.gerg_reducing.specs.declared.GergModel.{GergModel}
 use Rattle.gerg.specs.declared.GergState.{GergState}
 use Rattle.gerg.specs.declared.Range.{Range}
-use Rattle.gerg_terms.specs.declared.derivatives.GergDerivatives.{GergDerivatives}
+use Rattle.gerg_derivatives.specs.declared.derivatives.GergDerivatives.{GergDerivatives}
 use Rattle.gerg.specs.declared.helmholtz.HelmholtzAnswer.{HelmholtzAnswer}
 use Rattle.gerg.specs.declared.helmholtz.HelmholtzAnswer.the-variants as derived
-use Rattle.gerg.specs.declared.evaluate.EvaluateAnswer.{EvaluateAnswer}
 use Rattle.gerg.specs.declared.evaluate.EvaluateAnswer.the-variants.{State, Refused}
-use Rattle.gerg_model.specs.Mixture.{deltaOf, tauOf}
-use Rattle.gerg_terms.specs.Derivatives.{zeroDerivatives}
+use Rattle.gerg_reducing.specs.Reduced.{deltaOf, tauOf}
+use Rattle.gerg_derivatives.specs.Derivatives.{zeroDerivatives}
 use Rattle.gerg_terms.specs.Terms.{componentsOf}
 use Rattle.gerg.specs.Helmholtz.{helmholtzOf, checkedOf, withinRange, allFinite}
 use Rattle.gerg.specs.Evaluate.{evaluateOf, admittedAnswer, admittedOf, unstable, stiffnessOf, cvOf, pressureOf, pressureOut, partsOf, stateOf, stateFrom, finiteState}
@@ -62,10 +61,6 @@ pub record Admitted (t : Tables) (m : GergModel) (range : Range) (temperature rh
   pub cv-positive : le (s .cv) +0 ≡ false
   pub pressure-within : pressureOut (range .«pressure_high») (s .«pressure_pa») ≡ false
   pub numbers-finite : finiteState s ≡ true
-
-or-false : (a b : Bool) → (a || b) ≡ false → (a ≡ false) × (b ≡ false)
-or-false true b e = absurd (true≢false e)
-or-false false b e = (refl, e)
 
 module _ (t : Tables) (m : GergModel) (range : Range) (temperature rho : Float) (s : GergState) where
   admitted-from : (a : GergDerivatives) → helmholtzOf t m range temperature rho ≡ derived.Derivatives a → (u p f : Bool) → unstable a temperature ≡ u →

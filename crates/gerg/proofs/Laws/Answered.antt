@@ -1,6 +1,6 @@
 -- What rows 10 to 12 leave of an answered state. Row 10's test passes a NaN; row 12's, on the stiffness and on cp, a sum with cv in it, passes none. Assumes nothing.
 use mathlib.Core.Path.{_≡_, refl, sym, ap, _∙_, subst}
-use mathlib.Core.Bool.{Bool, true, false, not, _&&_, _||_, Bool·beq, true≢false, false≢true}
+use mathlib.Core.Bool.{Bool, true, false, not, _&&_, _||_, Bool·beq, false≢true}
 use Prim.Native.Nat.{ℕ, _*_}
 use native.Mathlib.Omega.{arith}
 use borrow.Author.Tests.{not-false}
@@ -9,29 +9,18 @@ use lib.Dec.{T, eqb, eqb→eq}
 use lib.Ieee.{Float, nan, inf, fin, up, down, level, add, lt, le, eq}
 use lib.Ieee.Fits.{and-l}
 use lib.Ieee.Scale.{finite}
-use lib.Ieee.Positive.{positive}
+use Rattle.numerics.specs.Tests.{or-false, and-true, holds}
 use Rattle.numerics.specs.Double.{_⊕_, _⊗_, _⊘_, +0}
 use Rattle.elementary.specs.Power.{powiByteOf}
 use Rattle.gerg_tables.specs.declared.Tables.{Tables}
-use Rattle.gerg_model.specs.declared.GergModel.{GergModel}
+use Rattle.gerg_reducing.specs.declared.GergModel.{GergModel}
 use Rattle.gerg.specs.declared.GergState.{GergState}
 use Rattle.gerg.specs.declared.Range.{Range}
 use Rattle.gerg.specs.declared.evaluate.EvaluateAnswer.{EvaluateAnswer}
 use Rattle.gerg.specs.Evaluate.{evaluateOf, stiffnessOf, pressureSlopeOf, cvOf, cpOf, pressureOut, finiteState, partsOf, stateOf, stateFrom}
 pub use Rattle.gerg.specs.Answered.{Answered}
-use Rattle.gerg.proofs.Laws.Zero.{zero-is, above-zero}
-use Rattle.gerg.proofs.Laws.Admitted.{Admitted, evaluate-admitted}
-
-or-false : (a b : Bool) → (a || b) ≡ false → (a ≡ false) × (b ≡ false)
-or-false true b e = absurd (true≢false e)
-or-false false b e = (refl, e)
-
-and-true : (a b : Bool) → (a && b) ≡ true → (a ≡ true) × (b ≡ true)
-and-true true b e = (refl, e)
-and-true false b e = absurd (false≢true e)
-
-holds : (b : Bool) → b ≡ true → T b
-holds b e = subst T (sym e) tt
+use Rattle.numerics.specs.Zero.{zero-is, above-zero}
+use Rattle.gerg.proofs.Laws.Admitted.{evaluate-admitted}
 
 -- ---- row 11
 -- what zero is level with is level with zero

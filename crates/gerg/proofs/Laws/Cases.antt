@@ -3,9 +3,9 @@ use mathlib.Core.Path.{_≡_, refl}
 use lib.Ieee.{Float, neg, le, ofBits}
 use Rattle.numerics.specs.Double.{bits, one}
 use Rattle.gerg_tables.specs.declared.Tables.{Tables}
-use Rattle.gerg_model.specs.declared.GergModel.{GergModel}
-use Rattle.gerg_model.specs.Mixture.{deltaOf, tauOf}
-use Rattle.gerg_terms.specs.Derivatives.{zeroDerivatives}
+use Rattle.gerg_reducing.specs.declared.GergModel.{GergModel}
+use Rattle.gerg_reducing.specs.Reduced.{deltaOf, tauOf}
+use Rattle.gerg_derivatives.specs.Derivatives.{zeroDerivatives}
 use Rattle.gerg_terms.specs.Terms.{componentsOf}
 use Rattle.gerg.specs.declared.helmholtz.HelmholtzAnswer.the-variants.{Refused}
 use Rattle.gerg.specs.Helmholtz.{helmholtzOf, withinRange, normalRange, checkedOf}

@@ -7,7 +7,7 @@ use lib.Ieee.{Float, nan}
 use lib.ListN.{length, getD}
 use Rattle.numerics.specs.Fill.{filled}
 use Rattle.gerg_tables.specs.declared.Tables.{Tables}
-use Rattle.gerg_tables.specs.Answer.{tablesOf}
+use Rattle.gerg_coefficients.specs.Answer.{tablesOf}
 use Rattle.gerg.specs.Helmholtz.{normalRange}
 use Rattle.gerg.specs.declared.GergState.{GergState}
 use Rattle.gerg_fugacity.specs.Fugacity.{lnPhis}
@@ -15,23 +15,24 @@ use Rattle.gerg_density.specs.DensityNumbers as ofDensity
 use Rattle.gerg_density.specs.declared.DensityResult.{DensityResult}
 use Rattle.gerg_search.specs.declared.Options.{Options}
 use Rattle.gerg_density.specs.declared.DensityAnswer.the-variants as density
-use Rattle.gerg_flash.specs.RootsNumbers as ofRoots
-use Rattle.gerg_flash.specs.declared.RootsAnswer.the-variants as roots
+use Rattle.gerg_root_list.specs.RootsNumbers as ofRoots
+use Rattle.gerg_root_list.specs.declared.RootsAnswer.the-variants as roots
 use Rattle.gerg_flash.proofs.Promises as scan
-use Rattle.gerg_ph.specs.SaturationNumbers as ofSaturation
-use Rattle.gerg_ph.specs.declared.PureSaturation.{PureSaturation}
-use Rattle.gerg_ph.specs.declared.SaturationAnswer.the-variants as saturation
-use Rattle.gerg_prepared.specs.Mixed.{mixedOf, numberOf, valueOf}
+use Rattle.gerg_saturation.specs.SaturationNumbers as ofSaturation
+use Rattle.gerg_saturation.specs.declared.PureSaturation.{PureSaturation}
+use Rattle.gerg_saturation.specs.declared.SaturationAnswer.the-variants as saturation
+use Rattle.gerg_prepared.specs.Mixed.{gradientRows, mixedOf, numberOf, valueOf}
 use Rattle.gerg_prepared.specs.declared.Mixed.{Mixed}
 use Rattle.gerg_answers.specs.PropertiesNumbers as ofProperties
 use Rattle.gerg_answers.specs.Answers.{numbersOf, densityNumbers, saturationNumbers, propertiesWritten, densityWritten, saturationWritten}
 use Rattle.gerg_answers.specs.declared.PropertiesAnswer.the-variants as answer
 use Rattle.gerg_answers.proofs.Laws as export
-use Rattle.gerg_api.specs.Calls.{evaluatedOf, propertiesOf, fugacityAnswer, fugacityWritten, densityCall, gradientRows}
-use Rattle.gerg_api.specs.Equilibrium.{rootsCall, rootsWritten, saturationCall}
-use Rattle.gerg_api.proofs.Laws.Below.{components-listed}
-use Rattle.gerg_api.proofs.Laws.After as laws
-use Rattle.gerg_api.proofs.Laws.Carried.{fugacity-through, roots-through}
+use Rattle.gerg_calls.specs.Calls.{evaluatedOf, propertiesOf, fugacityAnswer, fugacityWritten, densityCall}
+use Rattle.gerg_equilibrium.specs.Equilibrium.{rootsCall, rootsWritten, saturationCall}
+use Rattle.gerg_prepared.proofs.Refused.{components-listed}
+use Rattle.gerg_calls.proofs.Laws.After as laws
+use Rattle.gerg_calls.proofs.Laws.Carried.{fugacity-through}
+use Rattle.gerg_equilibrium.proofs.Laws.Carried.{roots-through}
 
 -- ---- "Every row leaves all lent memory as it was"
 module _ (bytes list : List ℕ) (fractions : List Float) where
@@ -44,13 +45,13 @@ module _ (bytes list : List ℕ) (fractions : List Float) where
   pub fugacity-leaves : (temperature rho : Float) (out : List Float) →
       (ofProperties.numberOf (fugacityAnswer bytes list fractions temperature rho out) ≡ 0 → ⊥) → fugacityWritten bytes list fractions temperature rho out ≡ out
   fugacity-leaves temperature rho out =
-      fugacity-through bytes list fractions (λ a l. (ofProperties.numberOf a ≡ 0 → ⊥) → l ≡ out) temperature rho out (λ h. refl) (λ e h. refl)
+      fugacity-through bytes list fractions (λ a l. (ofProperties.numberOf a ≡ 0 → ⊥) → l ≡ out) temperature rho out (λ b h. refl) (λ e h. refl)
       (λ e. laws.fugacity-memory t m temperature rho out (evaluatedOf t m temperature rho))
 
   pub roots-leaves : (temperature pressure : Float) (out : List Float) →
       (ofRoots.numberOf (rootsCall bytes list fractions temperature pressure out) ≡ 0 → ⊥) → rootsWritten bytes list fractions temperature pressure out ≡ out
   roots-leaves temperature pressure out =
-      roots-through bytes list fractions (λ a l. (ofRoots.numberOf a ≡ 0 → ⊥) → l ≡ out) temperature pressure out (λ h. refl)
+      roots-through bytes list fractions (λ a l. (ofRoots.numberOf a ≡ 0 → ⊥) → l ≡ out) temperature pressure out (λ b h. refl)
       (λ e. scan.refusal-leaves-memory t (m .model) (gradientRows m) normalRange temperature pressure out)
 
   pub properties-leaves : (temperature rho : Float) (out : List Float) →
@@ -89,7 +90,7 @@ module _ (bytes list : List ℕ) (fractions : List Float) where
       fugacityWritten bytes list fractions temperature rho out ≡ filled (λ k. getD (lnPhis t (m .model) (gradientRows m) s temperature rho) k nan) (length list) out
   fugacity-writes temperature rho out s =
       fugacity-through bytes list fractions (λ a l. a ≡ answer.State s → l ≡ filled (λ k. getD (lnPhis t (m .model) (gradientRows m) s temperature rho) k nan) (length list) out) temperature rho out
-      (λ h. absurd (never (numberOf (m .refusal)) (valueOf (m .refusal)) h)) (λ e h. absurd (never 24 (m .model .components) h))
+      (λ b h. absurd (never (numberOf (m .refusal)) (valueOf (m .refusal)) h)) (λ e h. absurd (never 24 (m .model .components) h))
       (λ e h. laws.fugacity-written t m temperature rho out (evaluatedOf t m temperature rho) s h
       ∙ ap (λ (n : ℕ). filled (λ k. getD (lnPhis t (m .model) (gradientRows m) s temperature rho) k nan) n out) (components-listed bytes list fractions e))
     where
@@ -101,5 +102,5 @@ module _ (bytes list : List ℕ) (fractions : List Float) where
       (temperature pressure : Float) (out : List Float) (n : ℕ) → rootsCall bytes list fractions temperature pressure out ≡ roots.Roots n →
       (i : ℕ) → n * (4 + length list) ≤ i → getD (rootsWritten bytes list fractions temperature pressure out) i nan ≡ getD out i nan
   roots-past-needed temperature pressure out n h i past =
-      roots-through bytes list fractions (λ a l. a ≡ roots.Roots n → getD l i nan ≡ getD out i nan) temperature pressure out (λ k. refl)
+      roots-through bytes list fractions (λ a l. a ≡ roots.Roots n → getD l i nan ≡ getD out i nan) temperature pressure out (λ b k. refl)
       (λ e k. scan.past-needed-stay t (m .model) (gradientRows m) normalRange temperature pressure out n k i (rw (components-listed bytes list fractions e) past)) h

@@ -5,7 +5,7 @@ use lib.Ieee.{Float, lt, le}
 use lib.Ieee.Scale.{finite}
 use Rattle.numerics.specs.Double.{+0}
 use Rattle.gerg_tables.specs.declared.Tables.{Tables}
-use Rattle.gerg_model.specs.declared.GergModel.{GergModel}
+use Rattle.gerg_reducing.specs.declared.GergModel.{GergModel}
 use Rattle.gerg.specs.declared.Range.{Range}
 use Rattle.gerg_search.specs.Checks.{optionsRefused, leastDensity, mostDensity, mostTolerance}
 use Rattle.gerg_search.specs.Run.{outcomeOf}

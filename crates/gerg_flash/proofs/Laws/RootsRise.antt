@@ -1,15 +1,12 @@
 -- The densities of the roots that a search keeps rise. Assumes nothing.
 use mathlib.Core.Path.{_≡_}
-use mathlib.Core.Bool.{Bool, true, false}
-use mathlib.Core.List.{List, []}
+use mathlib.Core.List.{List}
 use Prim.Native.Nat.{ℕ}
 use native.Mathlib.Omega.{arith}
-use lib.Dec.{eqb}
 use lib.Ieee.{Float, nan}
 use lib.ListN.{getD}
-use Rattle.numerics.specs.Double.{pick}
 use Rattle.gerg_tables.specs.declared.Tables.{Tables}
-use Rattle.gerg_model.specs.declared.GergModel.{GergModel}
+use Rattle.gerg_reducing.specs.declared.GergModel.{GergModel}
 use Rattle.gerg.specs.declared.GergState.{GergState}
 use Rattle.gerg.specs.declared.Range.{Range}
 use Rattle.gerg.specs.declared.evaluate.EvaluateAnswer.{EvaluateAnswer}
@@ -19,14 +16,15 @@ use Rattle.gerg_fugacity.specs.declared.fugacity.FugacityCheck.the-variants as 
 use Rattle.gerg.specs.Evaluate.{evaluateOf}
 use Rattle.gerg_fugacity.specs.Fugacity.{fugacityOf}
 use Rattle.gerg_grid.specs.Grid.{gridOf}
-use Rattle.gerg_scan.specs.Scan.{Scanned, scanOf}
+use Rattle.gerg_scan_steps.specs.Scan.{scanOf}
 use Rattle.gerg_scan.specs.Sampling.{sampleOf}
-use Rattle.gerg_flash.specs.Roots.{Outcome, found, stopped, headOf, checkedOf, stateOf, rootAt, keptOf, foundOf, searchedOf}
-use Rattle.gerg_grid.proofs.Laws.Rising.{Rising, rising-none}
+use Rattle.gerg_root_list.specs.RootList.{found, stopped}
+use Rattle.gerg_flash.specs.Roots.{headOf, checkedOf, stateOf, rootAt, searchedOf}
+use Rattle.gerg_grid.proofs.Laws.Rising.{Rising}
 use Rattle.gerg_grid.proofs.Laws.GridRises.{grid-rises, grid-some}
-use Rattle.gerg_scan.proofs.Laws.ScanRises.{scan-rises}
-use Rattle.gerg_flash.proofs.Laws.RootList.{rootList}
-use Rattle.gerg_flash.proofs.Laws.KeptRises.{Headed, kept-rises}
+use Rattle.gerg_scan_steps.proofs.Laws.ScanRises.{scan-rises}
+use Rattle.gerg_root_list.proofs.Laws.RootList.{rootList}
+use Rattle.gerg_root_list.proofs.Laws.KeptRises.{Headed, found-rises}
 
 -- ---- a root's first number is its density
 module _ (t : Tables) (m : GergModel) (gradients : List (List Float)) (temperature x : Float) (h c : List Float) where
@@ -46,14 +44,6 @@ module _ (t : Tables) (m : GergModel) (gradients : List (List Float)) (temperatu
 headed : (t : Tables) (m : GergModel) (gradients : List (List Float)) (range : Range) (temperature : Float) → Headed (rootAt t m gradients range temperature)
 unfolding rootAt
 headed t m gradients range temperature x h c e = headed-state t m gradients temperature x h c (evaluateOf t m range temperature x) e
-
-found-rises : (root : Float → Outcome) → Headed root → (target : Float) (s : Scanned) → Rising (s .densities) → Rising (rootList (foundOf root target s .heads))
-unfolding foundOf rootList
-found-rises root g target s r = go (eqb (s .refused) 0)
-  where
-    go : (b : Bool) → Rising (rootList (pick b (keptOf root target s) (record { heads = []; coefficients = []; refused = s .refused }) .heads))
-    go true = kept-rises root g target s r
-    go false = rising-none
 
 pub searched-rises : (t : Tables) (m : GergModel) (gradients : List (List Float)) (range : Range) (temperature target : Float) → Rising (rootList (searchedOf t m gradients range temperature target .heads))
 unfolding searchedOf

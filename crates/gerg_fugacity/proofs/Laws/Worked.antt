@@ -9,7 +9,7 @@ use Rattle.numerics.specs.Fill.{filled}
 use Rattle.elementary_ln.specs.Ln.{lnOf}
 use Rattle.gerg_tables.specs.declared.Tables.{Tables}
 use Rattle.gerg_fugacity.specs.Fugacity.{molarGradient, weightedSum, lnPhi, lnPhiAt, lnPhis}
-use Rattle.gerg_model.specs.declared.GergModel.{GergModel}
+use Rattle.gerg_reducing.specs.declared.GergModel.{GergModel}
 use Rattle.gerg.specs.declared.GergState.{GergState}
 
 module _ (t : Tables) (m : GergModel) (gradients : List (List Float)) (s : GergState) (T rho : Float) where

@@ -12,7 +12,7 @@ use lib.Ieee.Positive.{between}
 use lib.ListN.{length, getD, length-append}
 use Rattle.numerics.specs.Double.{_⊖_, _⊗_, _⊘_, bits, pick}
 use Rattle.numerics.specs.Iterate.{iter}
-use Rattle.elementary.specs.Exp.{expOf}
+use Rattle.elementary_exp.specs.Exp.{expOf}
 use Rattle.elementary_ln.specs.Ln.{lnOf}
 use Rattle.numerics.specs.Spacing.{unit, count, Good, lt→count, count→lt, le→count}
 use Rattle.gerg_grid.specs.Grid.{lowest, highest, logarithmicPoint, evenPoint, clamped, pointAt, inserted, turned, greatestFirst, sortedPoints, sameAsLast, kept, gridOf}

@@ -13,8 +13,8 @@ use Rattle.numerics.specs.Double.{+0}
 use Rattle.numerics.specs.Iterate.{iter, range}
 use Rattle.gerg_tables.specs.declared.Tables.{Tables}
 use Rattle.gerg_tables.specs.Tables.{Shaped, kpol, kexp, mNumb, kpolij, kexpij}
-use Rattle.gerg_model.specs.declared.GergModel.{GergModel}
-use Rattle.gerg_model.specs.Mixture.{absent, tauOf}
+use Rattle.gerg_reducing.specs.declared.GergModel.{GergModel}
+use Rattle.gerg_reducing.specs.Reduced.{absent, tauOf}
 use Rattle.gerg_isotherm.specs.Isotherm.{pureCell, departureCell, idealRow, pureRow, departureRow, pairRow, componentRows, allRows, zeroCells, isothermOf}
 use Rattle.gerg_isotherm.specs.Rows.{Rows}
 use Rattle.gerg_isotherm.proofs.Laws.Rows.{number-in}

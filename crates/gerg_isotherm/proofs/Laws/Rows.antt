@@ -11,7 +11,7 @@ use lib.Ieee.{Float, nan}
 use lib.ListN.{getD}
 use Rattle.gerg_tables.specs.declared.Tables.{Tables}
 use Rattle.gerg_tables.specs.Tables.{Shaped, mNumb}
-use Rattle.gerg_model.specs.Mixture.{absent}
+use Rattle.gerg_reducing.specs.Reduced.{absent}
 use Rattle.gerg_isotherm.specs.Rows.{Row}
 
 or-right : (a b : Bool) → (a || b) ≡ false → b ≡ false

@@ -10,17 +10,14 @@ use lib.Ieee.{Float, nan}
 use lib.ListN.{length, getD, set, replicate}
 use Rattle.numerics.specs.Double.{pick}
 use Rattle.numerics.specs.Iterate.{iter}
+use Rattle.numerics.specs.Tests.{or-false}
 use Rattle.gerg_model.specs.MixtureCheck.{firstPlace, badNumber, badFraction, addsUp, checkOf}
 use Rattle.gerg_model.specs.Accepted.{KnownList, Accepted}
 use Rattle.gerg_model.specs.Mixture.{indicesOf, modelOf}
-use Rattle.gerg_model.specs.Listed.{Listed}
+use Rattle.gerg_reducing.specs.Listed.{Listed}
 use Rattle.gerg_model.proofs.Laws.First.{first-passed}
 use Rattle.gerg_model.specs.declared.mixture.MixtureCheck.{MixtureCheck}
 use Rattle.gerg_model.specs.declared.mixture.MixtureCheck.the-variants.{Sound, Refused}
-
-pub or-false : (a b : Bool) → (a || b) ≡ false → (a ≡ false) × (b ≡ false)
-or-false true b e = absurd (let z : _≡_ {A = Bool} true false = e in let y : _≡_ {A = ℕ} 0 1 = cc in omega arith)
-or-false false b e = (refl, e)
 
 -- the tests that were passed on the way to Sound
 sound-tests :
@@ -89,3 +86,8 @@ module _ (list : List ℕ) (good : KnownList list) where
 pub listed : (doubles : List Float) (list : List ℕ) (fractions : List Float) → Accepted list fractions → Listed (modelOf doubles list fractions)
 unfolding modelOf indicesOf
 listed doubles list fractions good = record { few = good .listed .few; known = λ k h. below-iter list (good .listed) (length list) (omega arith) k }
+
+-- as many components as the list is long
+pub as-listed : (doubles : List Float) (list : List ℕ) (fractions : List Float) → modelOf doubles list fractions .components ≡ length list
+unfolding modelOf
+as-listed doubles list fractions = refl

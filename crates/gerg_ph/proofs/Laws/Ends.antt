@@ -1,61 +1,41 @@
 -- The ends of a search that tries a temperature between them: two doubles between 230 and 350 K that rise. Assumes nothing.
 use mathlib.Core.Path.{_≡_, refl, sym, ap, _∙_, subst}
-use mathlib.Core.Bool.{Bool, true, false, not, _||_, false≢true}
+use mathlib.Core.Bool.{Bool, true, false, false≢true}
 use mathlib.Core.List.{List}
 use Prim.Native.Nat.{ℕ, _*_, _^_, _≤_}
 use native.Mathlib.Nat.{mul-one}
 use lib.IntN.{pos}
-use lib.Dec.{T, eqb}
+use lib.Dec.{T}
 use lib.Ieee.{Float, fin, binary64, fits, ofBits, lt, le}
 use lib.Ieee.Bits.{ofBits-fits}
 use lib.Ieee.Positive.{positive, between}
-use lib.Ieee.Scale.{finite}
 use Rattle.numerics.specs.Double.{bits, pick}
 use Rattle.numerics.specs.Spacing.{unit, count, counted, Good, lt→count, le→count}
-use Rattle.numerics.specs.Tests.{holds, not-false, or-false}
 use Rattle.gerg_tables.specs.declared.Tables.{Tables}
-use Rattle.gerg_model.specs.declared.GergModel.{GergModel}
+use Rattle.gerg_reducing.specs.declared.GergModel.{GergModel}
 use Rattle.gerg.specs.declared.Range.{Range}
-use Rattle.gerg_flash.specs.Roots.{beyondFive, withinEnvelope, searchedOf}
-use Rattle.gerg_flash.proofs.Laws.Envelope.{envelope-low, envelope-high}
-use Rattle.gerg_ph.specs.Checks.{positivePlace, refusedBy}
-use Rattle.gerg_ph.specs.Sampling.{rootsSample, sampleOf, verdictOf}
-use Rattle.gerg_ph.specs.Halvings.{encloses}
+use Rattle.gerg_root_list.specs.RootList.{beyondFive, withinEnvelope}
+use Rattle.gerg_flash.specs.Roots.{searchedOf}
+use Rattle.gerg_root_list.proofs.Laws.Envelope.{envelope-low, envelope-high}
+use Rattle.gerg_saturation.specs.Checks.{positivePlace, refusedBy}
+use Rattle.gerg_saturation.specs.Coexistence.{verdictOf}
+use Rattle.gerg_ph.specs.Sampling.{rootsSample, sampleOf}
+use Rattle.gerg_saturation.specs.Halvings.{encloses}
 use Rattle.gerg_ph.specs.Saturation.{verdictAt}
-use Rattle.gerg_ph.specs.declared.Sample.{Sample}
-use Rattle.gerg_ph.specs.declared.Sample.the-variants as sampled
-use Rattle.gerg_ph.specs.declared.Verdict.{Verdict}
-use Rattle.gerg_ph.specs.declared.Verdict.the-variants.{Accepted, Apart, Refused}
-use Rattle.gerg_ph.proofs.Laws.Halved.{Within}
-
--- ---- ends that enclose are apart, so neither is refused
-abbrev isApart : Verdict → Bool
-isApart (Accepted s) = false
-isApart (Apart d) = true
-isApart (Refused n) = false
-
-enclosing : (a c : Verdict) → encloses a c ≡ true → (isApart a ≡ true) × (isApart c ≡ true)
-unfolding encloses
-enclosing (Apart l) (Apart r) e = (refl, refl)
-enclosing (Apart l) (Accepted s) e = absurd (false≢true e)
-enclosing (Apart l) (Refused n) e = absurd (false≢true e)
-enclosing (Accepted s) c e = absurd (false≢true e)
-enclosing (Refused n) c e = absurd (false≢true e)
+use Rattle.gerg_saturation.specs.declared.Sample.{Sample}
+use Rattle.gerg_saturation.specs.declared.Sample.the-variants as sampled
+use Rattle.gerg_saturation.proofs.Laws.Halved.{Within}
+use Rattle.gerg_saturation.proofs.Laws.Verdicts.{isApart, enclosing, rising, verdict-refused}
 
 -- a temperature that is not refused has passed row 21
 inside-envelope : (t : Tables) (m : GergModel) (gradients : List (List Float)) (range : Range) (pressure x : Float) → isApart (verdictAt t m gradients range pressure x) ≡ true → withinEnvelope x pressure ≡ true
-unfolding verdictAt sampleOf verdictOf
+unfolding verdictAt sampleOf
 inside-envelope t m gradients range pressure x = go (beyondFive m) (withinEnvelope x pressure) (rootsSample (m .«reducing_density») (positivePlace m) x pressure (searchedOf t m gradients range x pressure))
   where
     go : (a b : Bool) (s : Sample) → isApart (verdictOf (pick a (sampled.Refused 20) (pick b s (sampled.Refused 21)))) ≡ true → b ≡ true
-    go true b s e = absurd (false≢true e)
+    go true b s e = absurd (false≢true (sym (ap isApart (verdict-refused 20)) ∙ e))
     go false true s e = refl
-    go false false s e = absurd (false≢true e)
-
--- row 25 leaves ends that rise
-rising : (n : ℕ) (lo hi : Float) → refusedBy n lo hi ≡ false → T (lt lo hi)
-unfolding refusedBy
-rising n lo hi e = holds (lt lo hi) (not-false (lt lo hi) (or-false (not (eqb n 1) || not (finite lo) || not (finite hi)) (not (lt lo hi)) e .1))
+    go false false s e = absurd (false≢true (sym (ap isApart (verdict-refused 21)) ∙ e))
 
 -- ---- 230 and 350 K
 low-is : bits 0x406c_c000_0000_0000 ≡ fin false 115 (pos 1)

@@ -9,15 +9,17 @@ use lib.Dec.{eqb}
 use lib.Ieee.{Float}
 use lib.ListN.{length, getD}
 use Rattle.gerg_tables.specs.declared.Tables.{Tables}
-use Rattle.gerg_model.specs.declared.GergModel.{GergModel}
+use Rattle.gerg_reducing.specs.declared.GergModel.{GergModel}
 use Rattle.gerg.specs.declared.Range.{Range}
-use Rattle.gerg_flash.specs.Roots.{settledOf, beyondFive, withinEnvelope, searchedOf}
-use Rattle.gerg_flash.specs.declared.Settled.{Settled}
-use Rattle.gerg_flash.proofs.Laws.Settled.{settled-refused, settled-count, settled-head, settled-coefficients}
-use Rattle.gerg_ph.specs.Checks.{positivePlace}
-use Rattle.gerg_ph.specs.Sampling.{signOf, coexistingOf, rootsSample, sampleOf}
-use Rattle.gerg_ph.specs.declared.Sample.{Sample}
-use Rattle.gerg_ph.specs.declared.Sample.the-variants.{Single, Refused}
+use Rattle.gerg_root_list.specs.RootList.{settledOf, beyondFive, withinEnvelope}
+use Rattle.gerg_flash.specs.Roots.{searchedOf}
+use Rattle.gerg_root_list.specs.declared.Settled.{Settled}
+use Rattle.gerg_root_list.proofs.Laws.Settled.{settled-refused, settled-count, settled-head, settled-coefficients}
+use Rattle.gerg_saturation.specs.Checks.{positivePlace}
+use Rattle.gerg_saturation.specs.Coexistence.{signOf, coexistingOf}
+use Rattle.gerg_ph.specs.Sampling.{rootsSample, sampleOf}
+use Rattle.gerg_saturation.specs.declared.Sample.{Sample}
+use Rattle.gerg_saturation.specs.declared.Sample.the-variants.{Single, Refused}
 
 module _ (reducing : Float) (place : ℕ) (temperature pressure : Float) (s : Settled) (h c : List (List Float)) (few : s .count ≤ length h) where
   pub from-refused : (s .refused ≡ 0 → ⊥) → Refused (s .refused) ≡ rootsSample reducing place temperature pressure (settledOf s h c)

@@ -7,36 +7,37 @@ use native.Mathlib.Omega.{arith}
 use lib.Ieee.{Float}
 use Rattle.numerics.specs.Double.{pick}
 use Rattle.gerg_tables.specs.declared.Tables.{Tables}
-use Rattle.gerg_model.specs.declared.GergModel.{GergModel}
+use Rattle.gerg_reducing.specs.declared.GergModel.{GergModel}
 use Rattle.gerg.specs.declared.Range.{Range}
-use Rattle.gerg_flash.specs.Roots.{beyondFive, withinEnvelope}
-use Rattle.gerg_ph.specs.Checks.{positiveFractions, refusedBy, saturationRefused}
-use Rattle.gerg_ph.specs.Sampling.{verdictOf}
-use Rattle.gerg_ph.specs.Halvings.{searchOf}
+use Rattle.gerg_root_list.specs.RootList.{beyondFive, withinEnvelope}
+use Rattle.gerg_saturation.specs.Checks.{positiveFractions, refusedBy, saturationRefused}
+use Rattle.gerg_saturation.specs.Coexistence.{verdictOf}
+use Rattle.gerg_saturation.specs.Halvings.{searchOf}
 use Rattle.gerg_ph.specs.Saturation.{verdictAt, intervalOf, pureSaturationOf}
-use Rattle.gerg_ph.specs.declared.SaturationAnswer.the-variants.{Refused}
-use Rattle.gerg_ph.specs.declared.Verdict.the-variants as verdict
+use Rattle.gerg_saturation.specs.declared.SaturationAnswer.the-variants.{Refused}
+use Rattle.gerg_saturation.specs.declared.Verdict.the-variants as verdict
 use Rattle.gerg_ph.proofs.Laws.Sampling.{sample-beyond, sample-outside}
-use Rattle.gerg_ph.proofs.Laws.Halvings.{low-refused}
+use Rattle.gerg_saturation.proofs.Laws.Halvings.{low-refused}
+use Rattle.gerg_saturation.proofs.Laws.Verdicts.{verdict-refused, refused-is}
 
 module _ (t : Tables) (m : GergModel) (gradients : List (List Float)) (range : Range) (pressure : Float) where
   verdict-beyond : (x : Float) → beyondFive m ≡ true → verdictAt t m gradients range pressure x ≡ verdict.Refused 20
-  unfolding verdictAt verdictOf
-  verdict-beyond x b = ap verdictOf (sym (sample-beyond t m gradients range pressure x b))
+  unfolding verdictAt
+  verdict-beyond x b = ap verdictOf (sym (sample-beyond t m gradients range pressure x b)) ∙ verdict-refused 20
 
   verdict-outside : (x : Float) → beyondFive m ≡ false → withinEnvelope x pressure ≡ false → verdictAt t m gradients range pressure x ≡ verdict.Refused 21
-  unfolding verdictAt verdictOf
-  verdict-outside x b w = ap verdictOf (sym (sample-outside t m gradients range pressure x b w))
+  unfolding verdictAt
+  verdict-outside x b w = ap verdictOf (sym (sample-outside t m gradients range pressure x b w)) ∙ verdict-refused 21
 
   -- n is the number of positive fractions
   module _ (lo hi : Float) (limit n : ℕ) (e : n ≡ positiveFractions m) where
     refused : refusedBy n lo hi ≡ true → Refused 25 0 ≡ pureSaturationOf t m gradients range pressure lo hi limit
-    unfolding pureSaturationOf saturationRefused
-    refused f = let g : refusedBy (positiveFractions m) lo hi ≡ true = ap (λ (k : ℕ). refusedBy k lo hi) (sym e) ∙ f in rw g
+    unfolding pureSaturationOf
+    refused f = let g : saturationRefused m lo hi ≡ true = refused-is m lo hi ∙ ap (λ (k : ℕ). refusedBy k lo hi) (sym e) ∙ f in rw g
 
     pub searched : refusedBy n lo hi ≡ false → searchOf (verdictAt t m gradients range pressure) limit (intervalOf lo hi) ≡ pureSaturationOf t m gradients range pressure lo hi limit
-    unfolding pureSaturationOf saturationRefused
-    searched f = let g : refusedBy (positiveFractions m) lo hi ≡ false = ap (λ (k : ℕ). refusedBy k lo hi) (sym e) ∙ f in rw g
+    unfolding pureSaturationOf
+    searched f = let g : saturationRefused m lo hi ≡ false = refused-is m lo hi ∙ ap (λ (k : ℕ). refusedBy k lo hi) (sym e) ∙ f in rw g
 
     -- `number` is that of the first row that refuses, or 0
     pub first-row : (number : ℕ) → number ≡ pick (refusedBy n lo hi) 25 (pick (beyondFive m) 20 (pick (withinEnvelope lo pressure) 0 21)) → (number ≡ 0 → ⊥) → Refused number 0 ≡ pureSaturationOf t m gradients range pressure lo hi limit

@@ -29,6 +29,7 @@ use Rattle.numerics.specs.SpacingRounded.{Ranged}
 use Rattle.gerg_search.proofs.Laws.Shrink.{next-shrinks}
 use Rattle.gerg_search.proofs.Laws.Inner.{Inner, Narrowed, Gone, narrows, steps-on, stays-inner}
 use Rattle.gerg_search.proofs.Laws.Bound.{list-is}
+use Rattle.gerg_search.proofs.Laws.Ended.{last-step}
 
 -- ---- an interior step's answer and what it says
 abbrev next : Search → Float → Float → Float
@@ -87,7 +88,6 @@ pub record Collapsed (o : Options) (v : Float → Sample) (l : List Float) : Typ
 
 pub record Known (o : Options) (v : Float → Sample) (l : List Float) (s : Search) (a : Step) : Type 0 where
   pub counts : s .trials ≡ length l
-  pub ended : (x : Float) → a ≡ Try x → ⊥
   pub accepted : (x : Float) → a ≡ Accepted x → T (le (o .bracket .lo) x) × T (le x (o .bracket .hi))
   pub collapses : a ≡ Refused 18 → Collapsed o v l
   pub limited : a ≡ Refused 19 → Full o v s l
@@ -99,10 +99,6 @@ Ends o v l s = Known o v l s (stepOf o s (v (s .density)))
 module _ (o : Options) (v : Float → Sample) (fair : Fair v) (gl : Good (o .bracket .lo)) (gh : Good (o .bracket .hi)) (l : List Float) where
   list-by : (n : ℕ) (s : Search) (a : Step) → s .stage ≡ Interior → stepOf o s (v (s .density)) ≡ a → trialsFrom o v (suc n) s ≡ s .density ∷ onTry a (λ x. trialsFrom o v n (movedOf s (v (s .density)) x)) []
   list-by n s a e p = list-is o v n s e ∙ ap (λ (z : Step). s .density ∷ onTry z (λ x. trialsFrom o v n (movedOf s (v (s .density)) x)) []) p
-
-  last-by : (n : ℕ) (s : Search) (a : Step) → stepOf o s (v (s .density)) ≡ a → lastFrom o v (suc n) s ≡ onTry a (λ x. lastFrom o v n (movedOf s (v (s .density)) x)) s
-  unfolding lastFrom
-  last-by n s a p = ap (λ (z : Step). onTry z (λ x. lastFrom o v n (movedOf s (v (s .density)) x)) s) p
 
   -- the density of an interior state is in the list
   here : (n : ℕ) (s : Search) → Inner o v s → Held o v l (suc n) s → List·Memᴰ (s .density) l
@@ -139,15 +135,14 @@ module _ (o : Options) (v : Float → Sample) (fair : Fair v) (gl : Good (o .bra
       trials-of z = z .trials
 
   -- an interior step that ends the search
-  stops : (n : ℕ) (s : Search) (a : Step) → Inner o v s → Held o v l (suc n) s → stepOf o s (v (s .density)) ≡ a → ((x : Float) → a ≡ Try x → ⊥) → onTry a (λ x. trialsFrom o v n (movedOf s (v (s .density)) x)) [] ≡ [] → Known o v l s a
+  stops : (n : ℕ) (s : Search) (a : Step) → Inner o v s → Held o v l (suc n) s → stepOf o s (v (s .density)) ≡ a → onTry a (λ x. trialsFrom o v n (movedOf s (v (s .density)) x)) [] ≡ [] → Known o v l s a
   unfolding stepOf stageOf
-  stops n s a i h p t e =
+  stops n s a i h p e =
       let is : trialsFrom o v (suc n) s ≡ s .density ∷ [] = list-by n s a (i .stage) p ∙ ap (λ (z : List Float). s .density ∷ z) e in
       let c : 1 + s .trials ≡ length l + 1 = subst (λ (z : List Float). length z + s .trials ≡ length l + 1) is (h .counts) in
       let cs : s .trials ≡ length l = omega arith in
       record {
         counts = cs;
-        ended = t;
         accepted = λ x q. accept (v (s .density)) x (p ∙ q);
         collapses = λ q. collapse (v (s .density)) refl (p ∙ q);
         limited = λ q. limit (v (s .density)) refl cs (p ∙ q);
@@ -208,6 +203,6 @@ module _ (o : Options) (v : Float → Sample) (fair : Fair v) (gl : Good (o .bra
       go : (a : Step) → stepOf o s (v (s .density)) ≡ a → ((x : Float) → Inner o v (movedOf s (v (s .density)) x) → Held o v l n (movedOf s (v (s .density)) x) → Ends o v l (lastFrom o v n (movedOf s (v (s .density)) x))) → Ends o v l (lastFrom o v (suc n) s)
       go (Try x) p r =
           let g = steps-on o v s x i p in
-          subst (λ (z : Search). Ends o v l z) (sym (last-by n s (Try x) p)) (r x (stays-inner o v s x i g) (held-on n s x i h p g))
-      go (Accepted x) p r = subst (λ (z : Search). Ends o v l z) (sym (last-by n s (Accepted x) p)) (subst (λ (a : Step). Known o v l s a) (sym p) (stops n s (Accepted x) i h p (λ y e. differ (cc)) refl))
-      go (Refused m) p r = subst (λ (z : Search). Ends o v l z) (sym (last-by n s (Refused m) p)) (subst (λ (a : Step). Known o v l s a) (sym p) (stops n s (Refused m) i h p (λ y e. differ (cc)) refl))
+          subst (λ (z : Search). Ends o v l z) (sym (last-step o v n s (Try x) p)) (r x (stays-inner o v s x i g) (held-on n s x i h p g))
+      go (Accepted x) p r = subst (λ (z : Search). Ends o v l z) (sym (last-step o v n s (Accepted x) p)) (subst (λ (a : Step). Known o v l s a) (sym p) (stops n s (Accepted x) i h p refl))
+      go (Refused m) p r = subst (λ (z : Search). Ends o v l z) (sym (last-step o v n s (Refused m) p)) (subst (λ (a : Step). Known o v l s a) (sym p) (stops n s (Refused m) i h p refl))

@@ -28,6 +28,7 @@ use Rattle.gerg_search.specs.declared.Outcome.the-variants.{Found, Faile
 use Rattle.numerics.specs.Spacing.{count→lt}
 use Rattle.gerg_search.proofs.Laws.Neighbours.{neighbours}
 use Rattle.gerg_search.proofs.Laws.Start.{Begun, begun, over-zero}
+use Rattle.gerg_search.proofs.Laws.Ended.{never-tries}
 use Rattle.gerg_search.proofs.Laws.Whole.{Done, whole, stopped-low}
 use Rattle.gerg_search.proofs.Laws.Standing as standing
 
@@ -78,7 +79,7 @@ module _ (high target : Float) (o : Options) (v : Float → Sample) (doubles : D
   unfolding answerOf
   failed m k e n13 n14 =
       let s = behind (λ h. n13 (cc)) (λ h. n14 (cc)) in
-      let r = report-failed (answerOf o v) (length (searched o v)) (lastOf o v .bracket) m k (s .done .known .ended) (sym (s .outcome) ∙ e) in
+      let r = report-failed (answerOf o v) (length (searched o v)) (lastOf o v .bracket) m k (never-tries o v) (sym (s .outcome) ∙ e) in
       (s, r .0, r .1 ∙ ap (λ (l : List Float). refusalValue m (length l)) (sym (s .list)))
 
   reached : (x : Float) (k : ℕ) (b : Bracket) → outcomeOf high target o v ≡ Found x k b → Searched high target o v × (answerOf o v ≡ Accepted x) × (k ≡ length (trialsOf high target o v))

@@ -29,6 +29,7 @@ use Rattle.numerics.specs.MiddleLaws.{middle-good, middle-from, middle-to}
 use Rattle.gerg_search.proofs.Laws.Inner.{Inner}
 use Rattle.gerg_search.proofs.Laws.Bound.{first-bounded}
 use Rattle.gerg_search.proofs.Laws.Start.{Begun, below-zero, some-limit}
+use Rattle.gerg_search.proofs.Laws.Ended.{last-step}
 use Rattle.gerg_search.proofs.Laws.Course.{Known, Ends, ends}
 
 -- what is shown of the list and the last state
@@ -48,23 +49,18 @@ module _ (o : Options) (v : Float → Sample) where
   unfolding trialsFrom
   list-step n s a e p = e _ ∙ ap (λ (z : Step). onTry z (λ x. trialsFrom o v n (movedOf s (v (s .density)) x)) []) p
 
-  last-step : (n : ℕ) (s : Search) (a : Step) → stepOf o s (v (s .density)) ≡ a → lastFrom o v (suc n) s ≡ onTry a (λ x. lastFrom o v n (movedOf s (v (s .density)) x)) s
-  unfolding lastFrom
-  last-step n s a p = ap (λ (z : Step). onTry z (λ x. lastFrom o v n (movedOf s (v (s .density)) x)) s) p
-
   pass : (n : ℕ) (s : Search) (x : Float) → Outer s → stepOf o s (v (s .density)) ≡ Try x → From o v n (movedOf s (v (s .density)) x) → From o v (suc n) s
-  pass n s x e p d = subst (λ (l : List Float). Done o v l (lastFrom o v (suc n) s)) (sym (list-step n s (Try x) e p)) (subst (λ (z : Search). Done o v (trialsFrom o v n (movedOf s (v (s .density)) x)) z) (sym (last-step n s (Try x) p)) d)
+  pass n s x e p d = subst (λ (l : List Float). Done o v l (lastFrom o v (suc n) s)) (sym (list-step n s (Try x) e p)) (subst (λ (z : Search). Done o v (trialsFrom o v n (movedOf s (v (s .density)) x)) z) (sym (last-step o v n s (Try x) p)) d)
 
   -- a step that ends the search at an end: refused by a row up to 16, or accepted within the bracket
   refused : (n m : ℕ) (s : Search) → Outer s → s .trials ≡ 0 → stepOf o s (v (s .density)) ≡ Refused m → m ≤ 16 → From o v (suc n) s
   refused n m s e z p h =
       subst (λ (l : List Float). Done o v l (lastFrom o v (suc n) s)) (sym (list-step n s (Refused m) e p))
-      (subst (λ (w : Search). Done o v [] w) (sym (last-step n s (Refused m) p))
+      (subst (λ (w : Search). Done o v [] w) (sym (last-step o v n s (Refused m) p))
       (record {
         few = zero-le;
         known = subst (λ (a : Step). Known o v [] s a) (sym p) (record {
           counts = z;
-          ended = λ x q. differ (cc);
           accepted = λ x q. differ (cc);
           collapses = λ q. absurd (far m h .0 (cc));
           limited = λ q. absurd (far m h .1 (cc));
@@ -77,12 +73,11 @@ module _ (o : Options) (v : Float → Sample) where
   accepted : (n : ℕ) (s : Search) (x : Float) → Outer s → s .trials ≡ 0 → stepOf o s (v (s .density)) ≡ Accepted x → T (le (o .bracket .lo) x) → T (le x (o .bracket .hi)) → From o v (suc n) s
   accepted n s x e z p lo hi =
       subst (λ (l : List Float). Done o v l (lastFrom o v (suc n) s)) (sym (list-step n s (Accepted x) e p))
-      (subst (λ (w : Search). Done o v [] w) (sym (last-step n s (Accepted x) p))
+      (subst (λ (w : Search). Done o v [] w) (sym (last-step o v n s (Accepted x) p))
       (record {
         few = zero-le;
         known = subst (λ (a : Step). Known o v [] s a) (sym p) (record {
           counts = z;
-          ended = λ y q. differ (cc);
           accepted = λ y q. (subst (λ (w : Float). T (le (o .bracket .lo) w)) (cc) lo, subst (λ (w : Float). T (le w (o .bracket .hi))) (cc) hi);
           collapses = λ q. differ (cc);
           limited = λ q. differ (cc);
@@ -94,7 +89,7 @@ module _ (o : Options) (v : Float → Sample) where
   unfolding answerOf lastOf beginOf stepOf
   stopped-low n e =
       let p : stepOf o (beginOf o) (v (o .bracket .lo)) ≡ Refused n = ap (stepOf o (beginOf o)) e in
-      ap (λ (s : Search). stepOf o s (v (s .density))) (last-step (suc (o .limit)) (beginOf o) (Refused n) p) ∙ p
+      ap (λ (s : Search). stepOf o s (v (s .density))) (last-step o v (suc (o .limit)) (beginOf o) (Refused n) p) ∙ p
 
 -- ---- the state at the high end, and the first interior one
 abbrev pub atHigh : Options → Float → Search

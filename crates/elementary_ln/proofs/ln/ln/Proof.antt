@@ -1,4 +1,4 @@
--- `elementary::ln::ln` meets its contract. Assumes nothing.
+-- `elementary_ln::ln::ln` meets its contract. Assumes nothing.
 use mathlib.Core.Path.{sym, subst, _∙_}
 use lib.Dec.{T}
 use lib.Ieee.{binary64, fits}

@@ -1,4 +1,4 @@
--- `elementary::ln::ln_parts` meets its contract. Assumes nothing.
+-- `elementary_ln::ln::ln_parts` meets its contract. Assumes nothing.
 use native.Mathlib.Omega.{arith}
 use Rattle.elementary_ln.specs.Ln.{lnParts}
 use Rattle.numerics.specs.Literals.{whole-double}

@@ -1,4 +1,4 @@
--- `elementary::ln::ln_pattern` meets its contract: the highest set bit bounds the shift. Assumes nothing.
+-- `elementary_ln::ln::ln_pattern` meets its contract: the highest set bit bounds the shift. Assumes nothing.
 use mathlib.Core.Path.{_≡_, ap, _∙_}
 use Prim.Native.Nat.{ℕ, _*_, _-_, _%_, _^_}
 use lib.Count.{leadingZeros}

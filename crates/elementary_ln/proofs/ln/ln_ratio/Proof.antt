@@ -1,4 +1,4 @@
--- `elementary::ln::ln_ratio` meets its contract. Assumes nothing.
+-- `elementary_ln::ln::ln_ratio` meets its contract. Assumes nothing.
 use mathlib.Core.Path.{refl}
 use Rattle.elementary_ln.specs.Ln.{lnRatio}
 use Rattle.elementary_ln.proofs.ln.ln_ratio.Statement.{statement}

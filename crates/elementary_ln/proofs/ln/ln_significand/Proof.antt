@@ -1,4 +1,4 @@
--- `elementary::ln::ln_significand` meets its contract. Assumes nothing.
+-- `elementary_ln::ln::ln_significand` meets its contract. Assumes nothing.
 use native.Mathlib.Omega.{arith}
 use Rattle.elementary_ln.specs.Ln.{lnSignificand}
 use Rattle.numerics.specs.Literals.{no-nan}

@@ -1,4 +1,4 @@
--- `elementary::ln::log_node` meets its contract: each arm gives its entry of the table. Assumes nothing.
+-- `elementary_ln::ln::log_node` meets its contract: each arm gives its entry of the table. Assumes nothing.
 use mathlib.Core.Path.{_≡_, refl}
 use Prim.Native.Nat.{ℕ, suc, _<_}
 use lib.ListN.{getD}

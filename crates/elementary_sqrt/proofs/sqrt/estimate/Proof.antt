@@ -1,4 +1,4 @@
--- `elementary::sqrt::estimate` meets its contract: a double above zero has a pattern. Assumes nothing.
+-- `elementary_sqrt::sqrt::estimate` meets its contract: a double above zero has a pattern. Assumes nothing.
 use borrow.Author.Needs.{needs}
 use Rattle.numerics.specs.Order.{above-number}
 use Rattle.elementary_sqrt.proofs.sqrt.estimate.Statement.{statement}

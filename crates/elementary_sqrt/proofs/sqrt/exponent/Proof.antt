@@ -1,4 +1,4 @@
--- `elementary::sqrt::exponent` meets its contract, by the test of each way. Assumes nothing.
+-- `elementary_sqrt::sqrt::exponent` meets its contract, by the test of each way. Assumes nothing.
 use borrow.Author.Needs.{needs}
 use native.Mathlib.Omega.{arith}
 use borrow.Author.Tests.{lt-ltb, le-ltb}

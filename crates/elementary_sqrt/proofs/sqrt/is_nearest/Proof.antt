@@ -1,4 +1,4 @@
--- `elementary::sqrt::is_nearest` meets its contract: the products fit, and what the last test says is the law `nearest-tested`. Assumes nothing.
+-- `elementary_sqrt::sqrt::is_nearest` meets its contract: the products fit, and what the last test says is the law `nearest-tested`. Assumes nothing.
 use borrow.Author.Needs.{needs}
 use native.Mathlib.Omega.{arith}
 use mathlib.Core.Path.{refl, sym, subst}

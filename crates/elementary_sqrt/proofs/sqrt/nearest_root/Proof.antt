@@ -1,4 +1,4 @@
--- `elementary::sqrt::nearest_root` meets its contract: what is tested is nearest, and so is what the digits give. Assumes nothing.
+-- `elementary_sqrt::sqrt::nearest_root` meets its contract: what is tested is nearest, and so is what the digits give. Assumes nothing.
 use borrow.Author.Needs.{needs}
 use Rattle.elementary_sqrt.proofs.Root.{nearest-bound, nearest-digits}
 use Rattle.elementary_sqrt.proofs.sqrt.nearest_root.Statement.{statement}

@@ -1,4 +1,4 @@
--- `elementary::sqrt::root_bits` meets its contract, by those of its callees; the radicand is that of the definition by the exponent's last digit. Assumes nothing.
+-- `elementary_sqrt::sqrt::root_bits` meets its contract, by those of its callees; the radicand is that of the definition by the exponent's last digit. Assumes nothing.
 use borrow.Author.Needs.{needs}
 use native.Mathlib.Omega.{arith}
 use mathlib.Core.Logic.{⊎-elim}

@@ -1,4 +1,4 @@
--- `elementary::sqrt::root_digits` meets its contract. The invariant: the digits that are found and what is left are those of the radicand (`Found`). Assumes nothing.
+-- `elementary_sqrt::sqrt::root_digits` meets its contract. The invariant: the digits that are found and what is left are those of the radicand (`Found`). Assumes nothing.
 use native.Mathlib.Omega.{arith}
 use Prim.Native.Nat.{_*_, _-_, _^_, _≤_, _<_}
 use mathlib.Core.Logic.{⊎-elim}

@@ -1,4 +1,4 @@
--- `elementary::sqrt::scaled` meets its contract: its patterns are below infinity's. Assumes nothing.
+-- `elementary_sqrt::sqrt::scaled` meets its contract: its patterns are below infinity's. Assumes nothing.
 use borrow.Author.Needs.{needs}
 use native.Mathlib.Omega.{arith}
 use Rattle.numerics.specs.Literals.{no-nan}

@@ -1,4 +1,4 @@
--- `elementary::sqrt::shift` meets its contract: `highest-bit` says where the highest set bit is. Assumes nothing.
+-- `elementary_sqrt::sqrt::shift` meets its contract: `highest-bit` says where the highest set bit is. Assumes nothing.
 use native.Mathlib.Omega.{arith}
 use Rattle.numerics.specs.Patterns.{highest-bit}
 use Rattle.elementary_sqrt.specs.Sqrt.{shiftOf}

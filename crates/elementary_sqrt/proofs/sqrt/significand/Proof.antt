@@ -1,4 +1,4 @@
--- `elementary::sqrt::significand` meets its contract: a subnormal's digits are moved up by `shift`, and no bit is lost. Assumes nothing.
+-- `elementary_sqrt::sqrt::significand` meets its contract: a subnormal's digits are moved up by `shift`, and no bit is lost. Assumes nothing.
 use borrow.Author.Needs.{needs}
 use native.Mathlib.Omega.{arith}
 use borrow.Author.Tests.{lt-ltb, le-ltb}

@@ -1,4 +1,4 @@
--- `elementary::sqrt::sqrt` meets its contract: the tests on each way, and the bounds of a positive double's pattern. Assumes nothing.
+-- `elementary_sqrt::sqrt::sqrt` meets its contract: the tests on each way, and the bounds of a positive double's pattern. Assumes nothing.
 use native.Mathlib.Omega.{arith}
 use mathlib.Core.Path.{sym, subst}
 use lib.Dec.{T}

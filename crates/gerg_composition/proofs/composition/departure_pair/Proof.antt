@@ -1,7 +1,7 @@
 -- `gerg_composition::composition::departure_pair` meets its contract. Assumes nothing.
 use borrow.Author.Tests.{leb-false}
 use Rattle.gerg_composition.specs.Composition.{departurePair}
-use Rattle.gerg_model.proofs.Laws.Accepted.{or-false}
+use Rattle.numerics.specs.Tests.{or-false}
 use native.Mathlib.Omega.{arith}
 use borrow.Author.Needs.{needs}
 use Rattle.gerg_composition.proofs.composition.departure_pair.Statement.{statement}

@@ -2,7 +2,7 @@
 use borrow.Author.Tests.{lt-ltb, le-ltb}
 use mathlib.Core.Path.{ap, _∙_}
 use lib.Ieee.{neg}
-use Rattle.elementary.specs.Exp.{expOf}
+use Rattle.elementary_exp.specs.Exp.{expOf}
 use Rattle.gerg_composition.specs.Powers.{dampingAt}
 use Rattle.gerg_composition.proofs.Laws.{power-at}
 use borrow.Author.Needs.{needs}

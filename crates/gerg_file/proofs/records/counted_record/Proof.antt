@@ -1,6 +1,6 @@
 use borrow.Author.Needs.{needs}
 use native.Mathlib.Omega.{arith}
-use Rattle.gerg_file.proofs.Tests.{flag, same, other, within, over}
+use Rattle.numerics.specs.CallTests.{flag, same, other, within, over}
 use Rattle.gerg_file.proofs.records.counted_record.Statement.{statement}
 use Rattle.gerg_file.proofs.records.counted_record.Tie as tie
 

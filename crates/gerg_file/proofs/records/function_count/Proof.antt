@@ -2,7 +2,7 @@ use native.Mathlib.Omega.{arith}
 use borrow.Author.Needs.{needs}
 use mathlib.Core.Path.{_≡_, sym}
 use Prim.Native.Nat.{_+_, _-_, _≤_}
-use Rattle.gerg_file.proofs.Tests.{same, other}
+use Rattle.numerics.specs.CallTests.{same, other}
 use Rattle.gerg_file.specs.File.{functions}
 use Rattle.gerg_file.proofs.Chain.{more, no-more, all-counted}
 use Rattle.gerg_file.proofs.records.function_count.Statement.{statement}

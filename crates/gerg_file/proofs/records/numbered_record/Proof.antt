@@ -8,7 +8,7 @@ use lib.Dec.{leb}
 use lib.ListN.{length}
 use Rattle.gerg_file.specs.Bytes.{byte}
 use Rattle.gerg_file.specs.File.{passed}
-use Rattle.gerg_file.proofs.Tests.{flag}
+use Rattle.numerics.specs.CallTests.{flag}
 use Rattle.gerg_file.proofs.Heads.{met, unmet}
 use Rattle.gerg_file.proofs.records.numbered_record.Statement.{statement}
 use Rattle.gerg_file.proofs.records.numbered_record.Tie as tie

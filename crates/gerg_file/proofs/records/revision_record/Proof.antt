@@ -1,5 +1,5 @@
 use Rattle.gerg_file.specs.File.{afterRevision}
-use Rattle.gerg_file.proofs.Tests.{flag, same, other}
+use Rattle.numerics.specs.CallTests.{flag, same, other}
 use borrow.Author.Needs.{needs}
 use Rattle.gerg_file.proofs.records.revision_record.Statement.{statement}
 use Rattle.gerg_file.proofs.records.revision_record.Tie as tie

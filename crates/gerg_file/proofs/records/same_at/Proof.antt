@@ -4,7 +4,7 @@ use mathlib.Core.Path.{_≡_, refl, sym, ap}
 use Prim.Native.Nat.{ℕ, _+_, _-_, _≤_}
 use lib.ListN.{length, drop}
 use Rattle.gerg_file.specs.File.{sameAt}
-use Rattle.gerg_file.proofs.Tests.{agree, differ}
+use Rattle.numerics.specs.CallTests.{agree, differ}
 use Rattle.gerg_file.proofs.Chain.{none-compared, next-same, not-same, all-same}
 use Rattle.gerg_file.proofs.records.same_at.Statement.{statement}
 use Rattle.gerg_file.proofs.records.same_at.Tie as tie

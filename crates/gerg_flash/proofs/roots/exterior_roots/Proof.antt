@@ -1,9 +1,9 @@
 -- `gerg_flash::roots::exterior_roots` meets its contract. Assumes nothing.
 use borrow.Author.Needs.{needs}
-use Rattle.gerg_flash.proofs.Laws.Answering.{search-refused, search-settled}
+use Rattle.gerg_root_list.proofs.Laws.Answering.{search-refused, search-settled}
 use mathlib.Core.Path.{ap, _∙_}
 use Rattle.gerg_flash.specs.Roots.{searchedOf}
-use Rattle.gerg_scan.specs.Scan.{scanOf}
+use Rattle.gerg_scan_steps.specs.Scan.{scanOf}
 use Rattle.gerg_flash.proofs.roots.exterior_roots.Statement.{statement}
 use Rattle.gerg_flash.proofs.roots.exterior_roots.Tie as tie
 

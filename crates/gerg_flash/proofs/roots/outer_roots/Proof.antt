@@ -1,6 +1,7 @@
 -- `gerg_flash::roots::outer_roots` meets its contract. Assumes nothing.
 use borrow.Author.Needs.{needs}
-use Rattle.gerg_flash.proofs.Laws.Answering.{roots-beyond, roots-outside, roots-inside, refused-memory, inside-memory}
+use Rattle.gerg_root_list.proofs.Laws.Answering.{refused-memory}
+use Rattle.gerg_flash.proofs.Laws.Tested.{roots-beyond, roots-outside, roots-inside, inside-memory}
 use mathlib.Core.Path.{sym, _∙_}
 use Rattle.gerg_flash.specs.Roots.{rootsMemory}
 use Rattle.gerg_flash.proofs.roots.outer_roots.Statement.{statement}

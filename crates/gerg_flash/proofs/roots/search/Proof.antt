@@ -2,7 +2,7 @@
 use borrow.Author.Needs.{needs}
 use mathlib.Core.Path.{ap, _∙_}
 use lib.ListN.{length}
-use Rattle.gerg_flash.specs.Roots.{Kept, answerOf, memoryBy}
+use Rattle.gerg_root_list.specs.RootList.{Kept, answerOf, memoryBy}
 use Rattle.gerg_flash.proofs.roots.search.Statement.{statement}
 use Rattle.gerg_flash.proofs.roots.search.Tie as tie
 

@@ -1,7 +1,7 @@
 -- `gerg_flash::settle::keep_step` meets its contract. Assumes nothing.
 use lib.Ieee.{Float, lt}
 use mathlib.Core.Path.{ap, sym, _∙_}
-use Rattle.gerg_flash.proofs.Laws.Keeping.{keeps-refused, keeps-interior, keeps-limit, keeps-root}
+use Rattle.gerg_root_list.proofs.Laws.Keeping.{keeps-refused, keeps-interior, keeps-limit, keeps-root}
 use borrow.Author.Needs.{needs}
 use Rattle.gerg_flash.proofs.settle.keep_step.Statement.{statement}
 use Rattle.gerg_flash.proofs.settle.keep_step.Tie as tie

@@ -1,6 +1,6 @@
 -- `gerg_flash::settle::root` meets its contract. Assumes nothing.
 use mathlib.Core.Path.{ap, sym, _∙_}
-use Rattle.gerg_flash.proofs.Laws.Keeping.{joins-stopped, joined-same}
+use Rattle.gerg_root_list.proofs.Laws.Keeping.{joins-stopped, joined-same}
 use Rattle.gerg_flash.specs.Roots.{stateOf, rootAt}
 use borrow.Author.Needs.{needs}
 use Rattle.gerg_flash.proofs.settle.root.Statement.{statement}

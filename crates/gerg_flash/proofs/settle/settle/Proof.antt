@@ -1,15 +1,15 @@
 -- `gerg_flash::settle::settle` meets its contract. The invariant: what is kept of the roots so far. Assumes nothing.
 use native.Mathlib.Omega.{arith}
 use borrow.Author.Needs.{needs}
-use Rattle.gerg_scan.specs.ScanArrays.{scannedOf}
 use Rattle.gerg_tables.specs.Tables.{tables}
 use Rattle.numerics.specs.Iterate.{iter, iter-begins}
 use lib.ListN.{length}
 use Prim.Native.Nat.{_≤_, _-_}
 use mathlib.Core.List.{[]}
-use mathlib.Core.Path.{_≡_}
-use Rattle.gerg_flash.proofs.Laws.Keeping.{stepAt, settles-turn, settles-done}
-use Rattle.gerg_flash.specs.Roots.{keptOf, settledOf}
+use mathlib.Core.Path.{_≡_, _∙_}
+use Rattle.gerg_root_list.proofs.Laws.Keeping.{stepAt, settles-turn, settles-all}
+use Rattle.gerg_root_list.proofs.Laws.Settled.{settled-none}
+use Rattle.gerg_root_list.specs.RootList.{settledOf}
 use Rattle.gerg_flash.specs.SoughtRoots.{rootFor}
 use Rattle.gerg_flash.proofs.settle.settle.Statement.{statement}
 use Rattle.gerg_flash.proofs.settle.settle.Tie as tie
@@ -21,8 +21,7 @@ abbrev μ-loop : tie.MeasureT-loop
 μ-loop densities residuals heads₀ coefficients₀ doubles integers isotherm gradients sought n first last s₀ i₀ heads coefficients s i = n - i
 
 loop-holds : tie.Need-loop-holds Inv-loop μ-loop
-unfolding settledOf
-loop-holds c = (omega arith, c .pre .0, omega arith, c .pre .2, c .pre .3, iter-begins _ _)
+loop-holds c = (omega arith, c .pre .0, omega arith, c .pre .2, c .pre .3, settled-none _ _ ∙ iter-begins _ _)
 
 mul-density : tie.Need-mul-density Inv-loop μ-loop
 mul-density c = search needs
@@ -56,10 +55,9 @@ loop-again c =
     (omega (arith, g), t .inv .1, omega (arith, t .inv .2, k .most), k .heads, k .coefficients, settles-turn _ _ _ _ _ _ _ (t .i) _ _ _ _ _ _ _ g (t .inv .5) k)
 
 returns : tie.Need-returns Inv-loop μ-loop
-unfolding keptOf scannedOf
 returns c =
     let t = c .before .loop in
-    record { is = settles-done _ _ _ _ (c .before .before .args .densities .now) _ (c .before .before .args .scan .count) (t .i) _ _ (omega (arith, t .inv .0, c .loop-test .left)) (omega (arith, t .inv .1, c .before .before .pre .1)) (t .inv .5); most = omega (arith, t .inv .0, t .inv .1, t .inv .2); heads = t .inv .3; coefficients = t .inv .4 }
+    record { is = settles-all _ _ (c .before .before .args .scan) (c .before .before .args .densities .now) _ (t .i) _ (omega (arith, t .inv .0, c .loop-test .left)) (omega (arith, t .inv .1, c .before .before .pre .1)) (t .inv .5); most = omega (arith, t .inv .0, t .inv .1, t .inv .2); heads = t .inv .3; coefficients = t .inv .4 }
 
 pub settle-spec : {M : Type 1} → statement M
 settle-spec =

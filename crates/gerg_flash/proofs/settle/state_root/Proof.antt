@@ -1,7 +1,8 @@
 -- `gerg_flash::settle::state_root` meets its contract. Assumes nothing.
 use mathlib.Core.Path.{ap, sym, _∙_}
-use Rattle.gerg_flash.proofs.Laws.Keeping.{joins-stopped, joins-found}
-use Rattle.gerg_flash.specs.Roots.{found, headOf, checkedOf}
+use Rattle.gerg_root_list.proofs.Laws.Keeping.{joins-stopped, joins-found}
+use Rattle.gerg_root_list.specs.RootList.{found}
+use Rattle.gerg_flash.specs.Roots.{headOf, checkedOf}
 use borrow.Author.Needs.{needs}
 use Rattle.gerg_flash.proofs.settle.state_root.Statement.{statement}
 use Rattle.gerg_flash.proofs.settle.state_root.Tie as tie

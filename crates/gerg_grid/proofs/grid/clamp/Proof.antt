@@ -1,4 +1,4 @@
--- `gerg_flash::grid::clamp` meets its contract: each way rewrites the tests that led there. Assumes nothing.
+-- `gerg_grid::grid::clamp` meets its contract: each way rewrites the tests that led there. Assumes nothing.
 use Rattle.gerg_grid.specs.Grid.{clamped}
 use Rattle.gerg_grid.proofs.grid.clamp.Statement.{statement}
 use Rattle.gerg_grid.proofs.grid.clamp.Tie as tie

@@ -1,4 +1,4 @@
--- `gerg_flash::grid::even_point` meets its contract. Assumes nothing.
+-- `gerg_grid::grid::even_point` meets its contract. Assumes nothing.
 use mathlib.Core.Path.{refl}
 use Rattle.gerg_grid.specs.Grid.{evenPoint}
 use borrow.Author.Needs.{needs}

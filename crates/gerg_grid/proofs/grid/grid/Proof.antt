@@ -1,4 +1,4 @@
--- `gerg_flash::grid::grid` meets its contract. The invariant: the front holds what is kept of the sorted points so far. Assumes nothing.
+-- `gerg_grid::grid::grid` meets its contract. The invariant: the front holds what is kept of the sorted points so far. Assumes nothing.
 use native.Mathlib.Omega.{arith}
 use borrow.Author.Needs.{needs}
 use Rattle.numerics.specs.Iterate.{iter, iter-begins, iter-turn, iter-done}

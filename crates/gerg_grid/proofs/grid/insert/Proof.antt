@@ -1,4 +1,4 @@
--- `gerg_flash::grid::insert` meets its contract. The invariant: inserting at j into what is there now gives what the whole insertion gives. Assumes nothing.
+-- `gerg_grid::grid::insert` meets its contract. The invariant: inserting at j into what is there now gives what the whole insertion gives. Assumes nothing.
 use native.Mathlib.Omega.{arith}
 use borrow.Author.Needs.{needs}
 use Prim.Native.Nat.{_<_}

@@ -1,4 +1,4 @@
--- `gerg_flash::grid::is_last` meets its contract: the last of the front, or a NaN where there is none. Assumes nothing.
+-- `gerg_grid::grid::is_last` meets its contract: the last of the front, or a NaN where there is none. Assumes nothing.
 use mathlib.Core.Bool.{false≢true}
 use Prim.Native.Nat.{_≤_}
 use native.Mathlib.Omega.{arith}

@@ -1,4 +1,4 @@
--- `gerg_flash::grid::keep` meets its contract. Assumes nothing.
+-- `gerg_grid::grid::keep` meets its contract. Assumes nothing.
 use native.Mathlib.Omega.{arith}
 use lib.ListN.{length, take, length-set}
 use mathlib.Core.Bool.{true, false}

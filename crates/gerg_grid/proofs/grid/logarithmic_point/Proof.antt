@@ -1,4 +1,4 @@
--- `gerg_flash::grid::logarithmic_point` meets its contract. Assumes nothing.
+-- `gerg_grid::grid::logarithmic_point` meets its contract. Assumes nothing.
 use Rattle.gerg_grid.specs.Grid.{logarithmicPoint}
 use borrow.Author.Needs.{needs}
 use Rattle.gerg_grid.proofs.grid.logarithmic_point.Statement.{statement}

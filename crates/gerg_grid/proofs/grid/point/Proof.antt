@@ -1,4 +1,4 @@
--- `gerg_flash::grid::point` meets its contract: the test, then the two calls. Assumes nothing.
+-- `gerg_grid::grid::point` meets its contract: the test, then the two calls. Assumes nothing.
 use lib.Dec.{ltb}
 use mathlib.Core.Bool.{true, false}
 use borrow.Author.Tests.{lt-ltb, le-ltb}

@@ -1,4 +1,4 @@
--- `gerg_flash::grid::sorted_points` meets its contract. The invariant: the front holds the points so far, sorted. Assumes nothing.
+-- `gerg_grid::grid::sorted_points` meets its contract. The invariant: the front holds the points so far, sorted. Assumes nothing.
 use borrow.Author.Needs.{needs}
 use native.Mathlib.Omega.{arith}
 use Rattle.gerg_grid.specs.Grid.{lowest, highest}

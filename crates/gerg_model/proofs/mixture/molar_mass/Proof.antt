@@ -6,7 +6,8 @@ use lib.ListN.{getD}
 use Rattle.numerics.specs.Double.{_⊕_, _⊗_, _⊘_}
 use Rattle.numerics.specs.Iterate.{iter, iter-begins, iter-turn, iter-done}
 use Rattle.gerg_tables.specs.Tables.{mmiGerg}
-use Rattle.gerg_model.specs.Mixture.{thousand, molarMass}
+use Rattle.gerg_reducing.specs.Reduced.{thousand}
+use Rattle.gerg_model.specs.Mixture.{molarMass}
 use native.Mathlib.Omega.{arith}
 use Rattle.gerg_model.proofs.mixture.molar_mass.Statement.{statement}
 use Rattle.gerg_model.proofs.mixture.molar_mass.Tie as tie

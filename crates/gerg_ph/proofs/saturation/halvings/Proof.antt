@@ -4,9 +4,9 @@ use native.Mathlib.Omega.{arith}
 use mathlib.Core.Path.{sym, ap, _∙_}
 use Prim.Native.Nat.{_-_}
 use Rattle.gerg_tables.specs.Tables.{tables}
-use Rattle.gerg_ph.proofs.Laws.Halvings.{Ahead, begins, done, accepted, refused, ended, again}
+use Rattle.gerg_saturation.proofs.Laws.Halvings.{Ahead, begins, done, accepted, refused, ended, again}
 use Rattle.gerg_ph.specs.Isobars.{verdictAlong}
-use Rattle.gerg_ph.specs.declared.SaturationAnswer.the-variants.{Found}
+use Rattle.gerg_saturation.specs.declared.SaturationAnswer.the-variants.{Found}
 use Rattle.gerg_ph.proofs.saturation.halvings.Statement.{statement}
 use Rattle.gerg_ph.proofs.saturation.halvings.Tie as tie
 

@@ -1,7 +1,7 @@
 -- `low_apart` meets its contract, by cases of the high end. Assumes nothing.
 use borrow.Author.Needs.{needs}
 use mathlib.Core.Path.{sym, _∙_}
-use Rattle.gerg_ph.proofs.Laws.Halvings.{apart-refused, apart-accepted, apart-none, apart-inner}
+use Rattle.gerg_saturation.proofs.Laws.Halvings.{apart-refused, apart-accepted, apart-none, apart-inner}
 use Rattle.gerg_ph.proofs.saturation.low_apart.Statement.{statement}
 use Rattle.gerg_ph.proofs.saturation.low_apart.Tie as tie
 

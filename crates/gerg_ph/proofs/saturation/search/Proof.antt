@@ -1,7 +1,7 @@
 -- `search` meets its contract, by cases of the low end. Assumes nothing.
 use borrow.Author.Needs.{needs}
 use mathlib.Core.Path.{sym, _∙_}
-use Rattle.gerg_ph.proofs.Laws.Halvings.{low-refused, low-accepted, low-apart}
+use Rattle.gerg_saturation.proofs.Laws.Halvings.{low-refused, low-accepted, low-apart}
 use Rattle.gerg_ph.proofs.saturation.search.Statement.{statement}
 use Rattle.gerg_ph.proofs.saturation.search.Tie as tie
 

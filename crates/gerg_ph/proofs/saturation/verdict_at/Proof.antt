@@ -1,7 +1,7 @@
 -- `verdict_at` meets its contract. Assumes nothing.
 use borrow.Author.Needs.{needs}
 use mathlib.Core.Path.{ap, _∙_}
-use Rattle.gerg_ph.specs.Sampling.{verdictOf}
+use Rattle.gerg_saturation.specs.Coexistence.{verdictOf}
 use Rattle.gerg_ph.specs.Saturation.{verdictAt}
 use Rattle.gerg_ph.proofs.saturation.verdict_at.Statement.{statement}
 use Rattle.gerg_ph.proofs.saturation.verdict_at.Tie as tie

@@ -1,4 +1,4 @@
--- `gerg_model::gradients::bump` meets its contract: with `bumped` open the two sides are one term. Assumes nothing.
+-- `gerg_reducing::gradients::bump` meets its contract: with `bumped` open the two sides are one term. Assumes nothing.
 use mathlib.Core.Path.{refl}
 use Rattle.gerg_reducing.specs.Reducing.{bumped}
 use borrow.Author.Needs.{needs}

@@ -1,4 +1,4 @@
--- `gerg_model::gradients::first_part` meets its contract. Assumes nothing.
+-- `gerg_reducing::gradients::first_part` meets its contract. Assumes nothing.
 use mathlib.Core.Path.{refl}
 use Rattle.gerg_reducing.specs.Reducing.{firstPart}
 use Rattle.gerg_reducing.proofs.gradients.first_part.Statement.{statement}

@@ -1,4 +1,4 @@
--- `gerg_model::gradients::gradient` meets its contract. The invariant: what the first i rows of pairs left. Assumes nothing.
+-- `gerg_reducing::gradients::gradient` meets its contract. The invariant: what the first i rows of pairs left. Assumes nothing.
 use mathlib.Core.Path.{_≡_}
 use Prim.Native.Nat.{_≤_, _-_}
 use Rattle.numerics.specs.Iterate.{iter, iter-begins, iter-turn, iter-done}

@@ -1,4 +1,4 @@
--- `gerg_model::gradients::gradient_pair` meets its contract: each way rewrites the tests on the two fractions. Assumes nothing.
+-- `gerg_reducing::gradients::gradient_pair` meets its contract: each way rewrites the tests on the two fractions. Assumes nothing.
 use Rattle.gerg_reducing.specs.Reducing.{gradientPair}
 use borrow.Author.Needs.{needs}
 use Rattle.gerg_reducing.proofs.gradients.gradient_pair.Statement.{statement}

@@ -1,4 +1,4 @@
--- `gerg_model::gradients::gradients` meets its contract. Assumes nothing.
+-- `gerg_reducing::gradients::gradients` meets its contract. Assumes nothing.
 use Rattle.gerg_reducing.specs.Reducing.{gradientsOf}
 use borrow.Author.Needs.{needs}
 use Rattle.gerg_reducing.proofs.gradients.gradients.Statement.{statement}

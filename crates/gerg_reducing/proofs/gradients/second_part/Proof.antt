@@ -1,4 +1,4 @@
--- `gerg_model::gradients::second_part` meets its contract. Assumes nothing.
+-- `gerg_reducing::gradients::second_part` meets its contract. Assumes nothing.
 use mathlib.Core.Path.{refl}
 use Rattle.gerg_reducing.specs.Reducing.{secondPart}
 use Rattle.gerg_reducing.proofs.gradients.second_part.Statement.{statement}

@@ -1,4 +1,4 @@
--- `gerg_model::reducing::b_of_pair` meets its contract. Assumes nothing.
+-- `gerg_reducing::reducing::b_of_pair` meets its contract. Assumes nothing.
 use borrow.Author.Tests.{eq-eqb, ne-eqb}
 use Rattle.gerg_reducing.specs.Reducing.{bij}
 use borrow.Author.Needs.{needs}

@@ -1,4 +1,4 @@
--- `gerg_model::reducing::reducing_pair` meets its contract. Assumes nothing.
+-- `gerg_reducing::reducing::reducing_pair` meets its contract. Assumes nothing.
 use Rattle.gerg_reducing.specs.Reducing.{reducingPair}
 use borrow.Author.Needs.{needs}
 use Rattle.gerg_reducing.proofs.reducing.reducing_pair.Statement.{statement}

@@ -1,4 +1,4 @@
--- `gerg_model::reducing::reducing_row` meets its contract. The invariant: what the pairs from i up to j left. Assumes nothing.
+-- `gerg_reducing::reducing::reducing_row` meets its contract. The invariant: what the pairs from i up to j left. Assumes nothing.
 use mathlib.Core.Path.{_≡_}
 use Prim.Native.Nat.{_≤_, _-_}
 use Rattle.numerics.specs.Iterate.{range, range-begins, range-turn, range-done}

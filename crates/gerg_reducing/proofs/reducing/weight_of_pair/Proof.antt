@@ -1,4 +1,4 @@
--- `gerg_model::reducing::weight_of_pair` meets its contract. Assumes nothing.
+-- `gerg_reducing::reducing::weight_of_pair` meets its contract. Assumes nothing.
 use borrow.Author.Tests.{eq-eqb, ne-eqb}
 use mathlib.Core.Path.{ap}
 use Rattle.numerics.specs.Double.{_⊗_}

@@ -1,6 +1,6 @@
--- `gerg_flash::sampling::crossed` meets its contract. Assumes nothing.
+-- `gerg_scan::sampling::crossed` meets its contract. Assumes nothing.
 use borrow.Author.Needs.{needs}
-use Rattle.gerg_scan.proofs.Laws.ScanSteps.{crosses, crosses-none}
+use Rattle.gerg_scan_steps.proofs.Laws.ScanSteps.{crosses, crosses-none}
 use Rattle.gerg_scan.proofs.sampling.crossed.Statement.{statement}
 use Rattle.gerg_scan.proofs.sampling.crossed.Tie as tie
 

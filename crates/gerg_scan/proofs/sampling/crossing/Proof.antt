@@ -1,11 +1,11 @@
--- `gerg_flash::sampling::crossing` meets its contract. The invariant: h is as the halvings so far left it. Assumes nothing.
+-- `gerg_scan::sampling::crossing` meets its contract. The invariant: h is as the halvings so far left it. Assumes nothing.
 use native.Mathlib.Omega.{arith}
 use borrow.Author.Needs.{needs}
 use Rattle.gerg_tables.specs.Tables.{tables}
 use Rattle.numerics.specs.Iterate.{iter, iter-begins, iter-turn, iter-done}
 use Prim.Native.Nat.{_≤_, _-_}
 use mathlib.Core.Path.{_≡_, _∙_}
-use Rattle.gerg_scan.specs.Halving.{halvedOf, unhalved, crossingOf}
+use Rattle.gerg_scan_steps.specs.Halving.{halvedOf, unhalved, crossingOf}
 use Rattle.gerg_scan.specs.Sought.{sampleFor}
 use Rattle.gerg_scan.proofs.sampling.crossing.Statement.{statement}
 use Rattle.gerg_scan.proofs.sampling.crossing.Tie as tie

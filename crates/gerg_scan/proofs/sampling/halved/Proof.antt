@@ -1,6 +1,6 @@
--- `gerg_flash::sampling::halved` meets its contract. Assumes nothing.
+-- `gerg_scan::sampling::halved` meets its contract. Assumes nothing.
 use mathlib.Core.Path.{_∙_}
-use Rattle.gerg_scan.specs.Halving.{halvedOf}
+use Rattle.gerg_scan_steps.specs.Halving.{halvedOf}
 use borrow.Author.Needs.{needs}
 use Rattle.gerg_scan.proofs.sampling.halved.Statement.{statement}
 use Rattle.gerg_scan.proofs.sampling.halved.Tie as tie

@@ -1,4 +1,4 @@
--- `gerg_flash::sampling::sample` meets its contract. Assumes nothing.
+-- `gerg_scan::sampling::sample` meets its contract. Assumes nothing.
 use mathlib.Core.Path.{ap, _∙_}
 use Rattle.gerg_scan.specs.Sampling.{sampleBy, sampleOf}
 use borrow.Author.Needs.{needs}

@@ -1,4 +1,4 @@
--- `gerg_flash::sampling::sample_by` meets its contract. Assumes nothing.
+-- `gerg_scan::sampling::sample_by` meets its contract. Assumes nothing.
 use mathlib.Core.Path.{_∙_}
 use Rattle.gerg_scan.specs.Sampling.{sampleBy}
 use borrow.Author.Needs.{needs}

@@ -1,4 +1,4 @@
--- `gerg_flash::sampling::sample_from` meets its contract. Assumes nothing.
+-- `gerg_scan::sampling::sample_from` meets its contract. Assumes nothing.
 use mathlib.Core.Path.{refl}
 use Rattle.gerg_scan.specs.Sampling.{sampleFrom}
 use Rattle.gerg_scan.proofs.sampling.sample_from.Statement.{statement}

@@ -1,7 +1,7 @@
--- `gerg_flash::sampling::scan` meets its contract. The invariant: what the scan over the grid points so far gives. Assumes nothing.
+-- `gerg_scan::sampling::scan` meets its contract. The invariant: what the scan over the grid points so far gives. Assumes nothing.
 use native.Mathlib.Omega.{arith}
 use borrow.Author.Needs.{needs}
-use Rattle.gerg_scan.proofs.Laws.ScanSteps.{stepAt, scans-begin, scans-turn, scans-done}
+use Rattle.gerg_scan_steps.proofs.Laws.ScanSteps.{stepAt, scans-begin, scans-turn, scans-done}
 use mathlib.Core.Path.{_≡_}
 use Prim.Native.Nat.{_≤_, _<_, _-_}
 use lib.Ieee.{nan}
@@ -9,8 +9,8 @@ use lib.ListN.{length, getD, take}
 use Rattle.numerics.specs.Iterate.{range}
 use Rattle.gerg_tables.specs.Tables.{tables}
 use Rattle.gerg_scan.specs.Sought.{sampleFor}
-use Rattle.gerg_scan.specs.Scan.{begunAt}
-use Rattle.gerg_scan.specs.ScanArrays.{scannedOf}
+use Rattle.gerg_scan_steps.specs.Scan.{begunAt}
+use Rattle.gerg_scan_steps.specs.ScanArrays.{scannedOf}
 use Rattle.gerg_scan.proofs.sampling.scan.Statement.{statement}
 use Rattle.gerg_scan.proofs.sampling.scan.Tie as tie
 

@@ -1,7 +1,7 @@
--- `gerg_flash::sampling::scan_step` meets its contract. Assumes nothing.
+-- `gerg_scan::sampling::scan_step` meets its contract. Assumes nothing.
 use native.Mathlib.Omega.{arith}
 use borrow.Author.Needs.{needs}
-use Rattle.gerg_scan.proofs.Laws.ScanSteps.{steps-none, steps-on, sees-refused, sees-value}
+use Rattle.gerg_scan_steps.proofs.Laws.ScanSteps.{steps-none, steps-on, sees-refused, sees-value}
 use Rattle.gerg_scan.proofs.sampling.scan_step.Statement.{statement}
 use Rattle.gerg_scan.proofs.sampling.scan_step.Tie as tie
 

@@ -17,32 +17,32 @@ mul-mass-2 c = search needs
 element-copy-out-mass : tie.Need-element-copy-out-mass
 element-copy-out-mass c = search needs
 
-mul-finite : tie.Need-mul-finite
-mul-finite c = search needs
+mul-is-finite : tie.Need-mul-is-finite
+mul-is-finite c = search needs
 
-mul-finite-2 : tie.Need-mul-finite-2
-mul-finite-2 c = search needs
+mul-is-finite-2 : tie.Need-mul-is-finite-2
+mul-is-finite-2 c = search needs
 
-element-copy-out-finite : tie.Need-element-copy-out-finite
-element-copy-out-finite c = search needs
+element-copy-out-is-finite : tie.Need-element-copy-out-is-finite
+element-copy-out-is-finite c = search needs
 
-finite-requires : tie.Need-finite-requires
-finite-requires c κs = search needs
+is-finite-requires : tie.Need-is-finite-requires
+is-finite-requires c κs = search needs
 
-finite-requires-2 : tie.Need-finite-requires-2
-finite-requires-2 c κs = search needs
+is-finite-requires-2 : tie.Need-is-finite-requires-2
+is-finite-requires-2 c κs = search needs
 
 positive-requires : tie.Need-positive-requires
 positive-requires c κs = search needs
 
 returns : tie.Need-returns
-returns c = simp (sym (c .before .before .before .before .finite .ensures) ∙ c .before .before .before .if1 .taken, sym (c .before .before .finite2 .ensures) ∙ c .before .if2 .taken) (ap not (c .positive .ensures))
+returns c = simp (sym (c .before .before .before .before .is-finite .ensures) ∙ c .before .before .before .if1 .taken, sym (c .before .before .is-finite2 .ensures) ∙ c .before .if2 .taken) (ap not (c .positive .ensures))
 
 returns-2 : tie.Need-returns-2
-returns-2 c = simp (sym (c .before .before .before .finite .ensures) ∙ c .before .before .if1 .taken, sym (c .before .finite2 .ensures) ∙ c .if2 .left)
+returns-2 c = simp (sym (c .before .before .before .is-finite .ensures) ∙ c .before .before .if1 .taken, sym (c .before .is-finite2 .ensures) ∙ c .if2 .left)
 
 returns-3 : tie.Need-returns-3
-returns-3 c = simp (sym (c .before .finite .ensures) ∙ c .if1 .left)
+returns-3 c = simp (sym (c .before .is-finite .ensures) ∙ c .if1 .left)
 
 pub bad-critical-spec : {M : Type 1} → statement M
 bad-critical-spec =
@@ -52,11 +52,11 @@ bad-critical-spec =
     add-mass
     mul-mass-2
     element-copy-out-mass
-    mul-finite
-    mul-finite-2
-    element-copy-out-finite
-    finite-requires
-    finite-requires-2
+    mul-is-finite
+    mul-is-finite-2
+    element-copy-out-is-finite
+    is-finite-requires
+    is-finite-requires-2
     positive-requires
     returns
     returns-2

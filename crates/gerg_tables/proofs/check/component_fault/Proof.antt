@@ -1,5 +1,5 @@
 use Rattle.gerg_tables.specs.Check.{componentFault}
-use Rattle.gerg_tables.proofs.Tests.{flag}
+use Rattle.numerics.specs.CallTests.{flag}
 use borrow.Author.Needs.{needs}
 use Rattle.gerg_tables.proofs.check.component_fault.Statement.{statement}
 use Rattle.gerg_tables.proofs.check.component_fault.Tie as tie

@@ -3,8 +3,8 @@ use mathlib.Core.Path.{_≡_, refl, sym, ap, _∙_}
 use borrow.Author.Tests.{lt-ltb, le-ltb}
 use lib.Ieee.{add, ofBits}
 use Rattle.numerics.specs.Double.{_⊕_, one, +0}
-use Rattle.elementary.specs.Exp.{expOf}
-use Rattle.elementary.proofs.Laws.{exp-zero}
+use Rattle.elementary_exp.specs.Exp.{expOf}
+use Rattle.elementary_exp.proofs.ExpLaws.{exp-zero}
 use Rattle.gerg_terms.specs.Terms.{exponentOf}
 use borrow.Author.Needs.{needs}
 use Rattle.gerg_terms.proofs.departure.exponent_of.Statement.{statement}

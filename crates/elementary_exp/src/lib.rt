@@ -1,0 +1,3 @@
+// The exponential, equal to its definition in specs/ for every double.
+
+pub mod exp;

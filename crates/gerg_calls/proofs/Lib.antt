@@ -1,0 +1,2 @@
+-- Laws that the crate above shares.
+pub mod Laws

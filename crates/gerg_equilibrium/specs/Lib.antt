@@ -1,0 +1,2 @@
+-- The calls `outer_roots` and `pure_saturation`: what each answers and writes.
+pub mod Equilibrium

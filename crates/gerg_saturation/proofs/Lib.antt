@@ -1,0 +1,2 @@
+-- Laws that the layer above shares.
+pub mod Laws

@@ -1,0 +1,2 @@
+-- Laws of a scan that the layers above share.
+pub mod Laws
