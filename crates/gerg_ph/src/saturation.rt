@@ -1,7 +1,6 @@
 // The saturation temperature: the rows that need no root, the two ends, and the halvings between them.
 
 use crate::Isobar;
-use gerg_saturation::ends;
 use crate::sampling;
 use gerg::Range;
 use gerg_grid::grid;
@@ -12,6 +11,7 @@ use gerg_saturation::SaturationAnswer;
 use gerg_saturation::Verdict;
 use gerg_saturation::checks;
 use gerg_saturation::coexistence;
+use gerg_saturation::ends;
 use gerg_saturation::halving;
 ghost use mathlib.Core.Path.{_≡_};
 ghost use Rattle.gerg_tables.specs.Tables.{tables, Shaped};
