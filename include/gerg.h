@@ -2,7 +2,7 @@
  *
  * Units: K, Pa, mol/m3, kg/m3, J/mol, J/(mol K), m/s.
  *
- * Every call starts from the same three slices, each a pointer and a length:
+ * Every call but gerg_state_at starts from the same three slices, each a pointer and a length:
  *   file       the bytes of a coefficient file, as data/gerg-2008.bin
  *   list       component numbers, 1 to 21, none twice
  *   fractions  one mole fraction for each of the list, adding up to 1 within 1e-9; a zero fraction is allowed
@@ -76,7 +76,8 @@ enum gerg_refusal {
     GERG_NO_ROOT = 23,
     GERG_OUT_TOO_SHORT = 24,          /* doubles needed */
     GERG_BAD_SATURATION = 25,         /* not one positive fraction, or ends nonfinite or not rising */
-    GERG_SATURATION_EXHAUSTED = 26    /* limit made, or the middle falls on an end: trials */
+    GERG_SATURATION_EXHAUSTED = 26,   /* limit made, or the middle falls on an end: trials */
+    GERG_ZERO_SEED = 27               /* states: the seed is 0 */
 };
 
 /* Places of `out`: gerg_properties writes the first 24, gerg_density all 30. */
@@ -139,6 +140,13 @@ enum gerg_saturation {
     GERG_SATURATION_PLACES
 };
 
+/* Places of `out` of gerg_state_at: GERG_TEMPERATURE and GERG_MOLAR_DENSITY. Of gerg_count_refusals: the numbers of enum gerg_refusal, GERG_ACCEPTED too;
+ * places of numbers that no refusal has get 0. */
+enum gerg_drawn {
+    GERG_DRAWN_PLACES = 2,
+    GERG_COUNT_PLACES = 38
+};
+
 /* Properties at a temperature and a molar density. Value: 0. */
 uint64_t gerg_properties(const uint8_t *file, size_t file_len, const uint8_t *list, size_t list_len, const double *fractions, size_t fractions_len,
                          double t, double rho, double out[GERG_STATE_PLACES]);
@@ -162,6 +170,16 @@ uint64_t gerg_outer_roots(const uint8_t *file, size_t file_len, const uint8_t *l
  * 230 <= lo < hi <= 350, p in 1e5..1e7. Value: 1 found; 0 where [lo, hi] does not enclose it, and then `out` is as it was. */
 uint64_t gerg_pure_saturation(const uint8_t *file, size_t file_len, const uint8_t *list, size_t list_len, const double *fractions, size_t fractions_len,
                               double p, double lo, double hi, uint64_t limit, double out[GERG_SATURATION_PLACES]);
+
+/* Temperature and molar density of state n of a seed, the first being 0, drawn as docs/METROLOGY.md says: T in 200..450, density in 1e-3..30000.
+ * 2n + 2 draws are made, and the equations are worked out for no state. Value: 0. */
+uint64_t gerg_state_at(uint64_t seed, uint32_t n, double out[GERG_DRAWN_PLACES]);
+
+/* Of the states first, first + 1, .. of a seed, `states` in number: in place k how many gerg_properties refuses under number k, in place 0 how many it
+ * accepts. The file is read and the mixture prepared once. The numbers of the states may pass 2^32, and the counts of a run are the sums of its parts'.
+ * A zero seed is refused before a bad file, list or fraction. Value: 0. */
+uint64_t gerg_count_refusals(const uint8_t *file, size_t file_len, const uint8_t *list, size_t list_len, const double *fractions, size_t fractions_len,
+                             uint64_t seed, uint32_t first, uint32_t states, uint64_t out[GERG_COUNT_PLACES]);
 
 static inline uint32_t gerg_number(uint64_t answer) { return (uint32_t)(answer >> 32); }
 static inline uint32_t gerg_value(uint64_t answer) { return (uint32_t)answer; }

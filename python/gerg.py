@@ -52,6 +52,7 @@ CAUSES = {
     24: "memory lent for the answer too short",
     25: "saturation: one positive fraction and finite, rising ends are needed",
     26: "saturation: limit of trials reached, or no double left between the ends",
+    27: "states: the seed is zero",
 }
 
 
@@ -119,16 +120,31 @@ class Saturation(NamedTuple):
     iterations: int
 
 
+class DrawnState(NamedTuple):
+    """A temperature and a molar density drawn from a seed."""
+    temperature: float
+    density: float
+
+
+class Counts(NamedTuple):
+    """Of the states of a run, how many were accepted, and by number how many were refused; numbers that refused none are left out."""
+    accepted: int
+    refused: dict
+
+
 _DOUBLES = ctypes.POINTER(ctypes.c_double)
 _MIXTURE = [ctypes.c_char_p, ctypes.c_size_t, ctypes.c_char_p, ctypes.c_size_t, _DOUBLES, ctypes.c_size_t]
-_F, _N, _LENGTH = ctypes.c_double, ctypes.c_uint64, ctypes.c_size_t
+_F, _N, _NUMBER, _LENGTH = ctypes.c_double, ctypes.c_uint64, ctypes.c_uint32, ctypes.c_size_t
 _EXPORTS = {
-    "gerg_properties": [_F, _F, _DOUBLES],
-    "gerg_fugacity": [_F, _F, _DOUBLES, _LENGTH],
-    "gerg_density": [_F, _F, _F, _F, _N, _F, _DOUBLES],
-    "gerg_outer_roots": [_F, _F, _DOUBLES, _LENGTH],
-    "gerg_pure_saturation": [_F, _F, _F, _N, _DOUBLES],
+    "gerg_properties": _MIXTURE + [_F, _F, _DOUBLES],
+    "gerg_fugacity": _MIXTURE + [_F, _F, _DOUBLES, _LENGTH],
+    "gerg_density": _MIXTURE + [_F, _F, _F, _F, _N, _F, _DOUBLES],
+    "gerg_outer_roots": _MIXTURE + [_F, _F, _DOUBLES, _LENGTH],
+    "gerg_pure_saturation": _MIXTURE + [_F, _F, _F, _N, _DOUBLES],
+    "gerg_state_at": [_N, _NUMBER, _DOUBLES],
+    "gerg_count_refusals": _MIXTURE + [_N, _NUMBER, _NUMBER, ctypes.POINTER(_N)],
 }
+_COUNT_PLACES = 38
 _MOST_ROOTS = 385  # one between two neighbours of the grid, which has 386 densities at most
 _loaded = {}
 
@@ -150,7 +166,7 @@ def _shared_library():
 def _export(name):
     if name not in _loaded:
         export = getattr(ctypes.CDLL(_shared_library()), name)
-        export.argtypes, export.restype = _MIXTURE + _EXPORTS[name], ctypes.c_uint64
+        export.argtypes, export.restype = _EXPORTS[name], ctypes.c_uint64
         _loaded[name] = export
     return _loaded[name]
 
@@ -174,11 +190,16 @@ def _pairs(mixture):
 
 
 def _call(name, file, mixture, *arguments):
-    """The value of an accepted call; a refusal is raised."""
+    """An export that starts with the file and the mixture."""
     pairs = _pairs(mixture)
     numbers = bytes(_number(component) for component, _ in pairs)
     fractions = (ctypes.c_double * len(pairs))(*(x for _, x in pairs))
-    answer = _export(name)(file, len(file), numbers, len(numbers), fractions, len(pairs), *arguments)
+    return _value(name, file, len(file), numbers, len(numbers), fractions, len(pairs), *arguments)
+
+
+def _value(name, *arguments):
+    """The value of an accepted call; a refusal is raised."""
+    answer = _export(name)(*arguments)
     number, value = answer >> 32, answer & 0xFFFFFFFF
     if number:
         raise Refusal(number, value)
@@ -230,3 +251,27 @@ def pure_saturation(file, mixture, p, lo, hi, limit=100):
     out = (ctypes.c_double * 9)()
     found = _call("gerg_pure_saturation", file, mixture, p, lo, hi, limit, out)
     return Saturation(*out[:8], int(out[8])) if found else None
+
+
+def _fits(**numbers):
+    """ctypes would take a whole number that is too large modulo its bits: another state."""
+    for name, number in numbers.items():
+        bits = 64 if name == "seed" else 32
+        if not 0 <= number < 1 << bits:
+            raise ValueError(f"{name} {number} is no whole number of {bits} bits")
+
+
+def state_at(seed, n):
+    """DrawnState number n of a seed, the first being 0, drawn as docs/METROLOGY.md says. The equations are worked out for no state."""
+    _fits(seed=seed, n=n)
+    out = (ctypes.c_double * 2)()
+    _value("gerg_state_at", seed, n, out)
+    return DrawnState(*out)
+
+
+def count_refusals(file, mixture, seed, first, states):
+    """The Counts of `properties` at the states first, first + 1, .. of a seed, so many in number."""
+    _fits(seed=seed, first=first, states=states)
+    out = (ctypes.c_uint64 * _COUNT_PLACES)()
+    _call("gerg_count_refusals", file, mixture, seed, first, states, out)
+    return Counts(out[0], {number: count for number, count in enumerate(out) if number and count})

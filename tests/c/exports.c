@@ -10,14 +10,18 @@ enum { LONGEST_FILE = 28377, ROOM = 64 };
 static uint8_t file[LONGEST_FILE + 1];
 static size_t length;
 static double out[ROOM];
+static uint64_t counts[ROOM];
 static int passed, failed;
 
 static const double LENT = -12345.678;
+static const uint64_t LENT_COUNT = 0x4142434445464748u;
 
 static void lend(void)
 {
-    for (int k = 0; k < ROOM; k++)
+    for (int k = 0; k < ROOM; k++) {
         out[k] = LENT;
+        counts[k] = LENT_COUNT;
+    }
 }
 
 static void expect(const char *name, int right)
@@ -39,11 +43,19 @@ static int lent_from(int place)
     return 1;
 }
 
+static int counts_lent_from(int place)
+{
+    for (int k = place; k < ROOM; k++)
+        if (counts[k] != LENT_COUNT)
+            return 0;
+    return 1;
+}
+
 static void refused(const char *name, uint64_t answer, uint32_t number, uint32_t value)
 {
     char full[128];
     snprintf(full, sizeof full, "%s: number %" PRIu32 ", value %" PRIu32, name, gerg_number(answer), gerg_value(answer));
-    expect(full, gerg_number(answer) == number && gerg_value(answer) == value && lent_from(0));
+    expect(full, gerg_number(answer) == number && gerg_value(answer) == value && lent_from(0) && counts_lent_from(0));
     lend();
 }
 
@@ -169,6 +181,41 @@ static void saturation(void)
     expect("the middle falls on an end", gerg_number(answer) == GERG_SATURATION_EXHAUSTED && gerg_value(answer) >= 30 && gerg_value(answer) <= 60 && lent_from(0));
 }
 
+/* Every place is written, and the counts add up to the number of states. */
+static void counted(const char *name, uint64_t answer, uint64_t states)
+{
+    uint64_t sum = 0;
+    for (int k = 0; k < GERG_COUNT_PLACES; k++)
+        sum += counts[k];
+    expect(name, answer == 0 && sum == states && counts_lent_from(GERG_COUNT_PLACES) && lent_from(0));
+}
+
+static void drawn_states(void)
+{
+    accepted("state 0", gerg_state_at(1, 0, out), 0, GERG_DRAWN_PLACES);
+    lend();
+    accepted("state 5000 of the largest seed", gerg_state_at(UINT64_MAX, 5000, out), 0, GERG_DRAWN_PLACES);
+    const double t = out[GERG_TEMPERATURE], rho = out[GERG_MOLAR_DENSITY];
+    expect("its range", t >= 200.0 && t <= 450.0 && rho >= 1e-3 && rho <= 30000.0);
+    lend();
+    const uint32_t number = gerg_number(gerg_properties(GAS, t, rho, out));
+    lend();
+    counted("one state", gerg_count_refusals(GAS, UINT64_MAX, 5000, 1, counts), 1);
+    expect("under the number of properties", counts[number] == 1);
+    lend();
+    counted("3000 states", gerg_count_refusals(GAS, 1, 0, 3000, counts), 3000);
+    expect("accepted and refused ones", counts[GERG_ACCEPTED] > 0 && counts[GERG_PRESSURE_OUT_OF_RANGE] > 0);
+    expect("none out of range", counts[GERG_DENSITY_NONFINITE] + counts[GERG_DENSITY_NOT_POSITIVE] + counts[GERG_OUT_OF_RANGE] == 0);
+    lend();
+    counted("no state", gerg_count_refusals(GAS, 1, 7, 0, counts), 0);
+    lend();
+    refused("state of a zero seed", gerg_state_at(0, 7, out), GERG_ZERO_SEED, 0);
+    refused("a zero seed", gerg_count_refusals(GAS, 0, 0, 10, counts), GERG_ZERO_SEED, 0);
+    refused("a zero seed before the file", gerg_count_refusals(file, 0, file, 0, HALVES, 0, 0, 10, counts), GERG_ZERO_SEED, 0);
+    refused("states: no list", gerg_count_refusals(TABLES, file, 0, HALVES, 1, 0, 10, counts), GERG_BAD_LIST, 0);
+    refused("states: sum", gerg_count_refusals(TABLES, METHANE_ETHANE, (const double[]){0.9, 0.2}, 2, 1, 0, 10, counts), GERG_BAD_FRACTIONS, 2);
+}
+
 /* Last: it spoils the file. */
 static void files(void)
 {
@@ -181,6 +228,7 @@ static void files(void)
     refused("last record cut", gerg_properties(PURE(1), 300.0, 1.0, out), GERG_BAD_FILE, (uint32_t)(whole - 44));
     length = whole + 1;
     refused("a byte over", gerg_properties(PURE(1), 300.0, 1.0, out), GERG_BAD_FILE, (uint32_t)whole);
+    refused("states: a byte over", gerg_count_refusals(PURE(1), 1, 0, 10, counts), GERG_BAD_FILE, (uint32_t)whole);
     length = whole;
     /* With gt of ethane, pair 60 from 0, far above its own the liquid is so stiff that no double has the pressure. */
     const double far = 1400.0, zero = 0.0, nothing = NAN;
@@ -188,8 +236,10 @@ static void files(void)
     refused("root not converged", gerg_outer_roots(PURE(GERG_ETHANE), 300.0, 1e5, out, ROOM), GERG_ROOT_NOT_CONVERGED, 0);
     memcpy(file + pairs + 27, &zero, sizeof zero);
     refused("gv of methane 0", gerg_properties(PURE(1), 300.0, 1.0, out), GERG_BAD_REDUCING_VALUES, 0);
+    refused("states: gv of methane 0", gerg_count_refusals(PURE(1), 1, 0, 10, counts), GERG_BAD_REDUCING_VALUES, 0);
     memcpy(file + pairs + 3, &nothing, sizeof nothing);
     refused("bt NaN", gerg_properties(PURE(1), 300.0, 1.0, out), GERG_BAD_TABLE, 1);
+    refused("states: bt NaN", gerg_count_refusals(PURE(1), 1, 0, 10, counts), GERG_BAD_TABLE, 1);
 }
 
 int main(int count, char **words)
@@ -206,6 +256,7 @@ int main(int count, char **words)
     searches();
     roots();
     saturation();
+    drawn_states();
     files();
     printf("%d passed, %d failed\n", passed, failed);
     return failed != 0;

@@ -2,5 +2,6 @@
 pub mod Admitted
 pub mod Answered
 pub mod Numbers
+pub mod Within
 pub mod Cases
 pub mod Normal

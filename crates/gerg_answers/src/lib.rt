@@ -14,7 +14,7 @@ pub enum PropertiesAnswer {
     Refused { number: u8, value: usize },
 }
 
-fn code(number: u8, value: usize) -> u64
+pub fn code(number: u8, value: usize) -> u64
     ensures { λ r. ⌜ r ≡ is.codeOf number value ⌝ }
 {
     (number as u64) * 0x1_0000_0000 + (value as u64) % 0x1_0000_0000

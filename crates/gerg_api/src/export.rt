@@ -6,10 +6,14 @@ use gerg_equilibrium::roots;
 use gerg_equilibrium::saturation;
 use gerg_search::Bracket;
 use gerg_search::Options;
+use gerg_states::Run;
+use gerg_states::counts;
+use gerg_states::state;
 ghost use mathlib.Core.Path.{_≡_};
 ghost use Rattle.gerg_answers.specs.Answers as answers;
 ghost use Rattle.gerg_calls.specs.Calls as is;
 ghost use Rattle.gerg_equilibrium.specs.Equilibrium as equilibrium;
+ghost use Rattle.gerg_states.specs.States as drawn;
 
 #[no_mangle]
 pub extern "C" fn gerg_properties(
@@ -105,4 +109,35 @@ pub extern "C" fn gerg_pure_saturation(
     let answer = saturation::pure_saturation(file, list, fractions, p, lo, hi, limit as usize);
     gerg_answers::put_saturation(answer, out);
     gerg_answers::saturation_code(answer)
+}
+
+#[no_mangle]
+pub extern "C" fn gerg_state_at(seed: u64, n: u32, out: &mut [f64; 2]) -> u64
+    ensures answer { λ r. ⌜ r ≡ drawn.refusalCode (drawn.seedRefusal seed) ⌝ }
+    ensures memory { λ r. ⌜ now (out .exit) ≡ drawn.stateWritten seed n (now (out .entry)) ⌝ }
+{
+    let refusal = state::state_at(seed, n, out);
+    gerg_states::refusal_code(refusal)
+}
+
+#[no_mangle]
+pub extern "C" fn gerg_count_refusals(
+    file: &[u8],
+    list: &[u8],
+    fractions: &[f64],
+    seed: u64,
+    first: u32,
+    states: u32,
+    out: &mut [u64; 38],
+) -> u64
+    ensures answer { λ r. ⌜ r ≡ drawn.refusalCode (drawn.runRefusal (now (file .entry)) (now (list .entry)) (now (fractions .entry)) seed) ⌝ }
+    ensures memory { λ r. ⌜ now (out .exit) ≡ drawn.countsWritten (now (file .entry)) (now (list .entry)) (now (fractions .entry)) (drawn.runOf seed first states) (now (out .entry)) ⌝ }
+{
+    let run = Run {
+        seed,
+        first,
+        states,
+    };
+    let refusal = counts::count_refusals(file, list, fractions, run, out);
+    gerg_states::refusal_code(refusal)
 }

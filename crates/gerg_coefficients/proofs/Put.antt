@@ -8,7 +8,7 @@ use native.Mathlib.Omega.{arith}
 use lib.ListN.{length, set, length-append}
 use lib.Seq.{sets}
 use lib.Ieee.{Float}
-use Rattle.numerics.specs.Fill.{tabulate, length-tabulate}
+use Rattle.numerics.specs.Fill.{tabulate, length-tabulate, sets-append}
 use Rattle.gerg_file.specs.Bytes.{byte, doubleAt}
 use Rattle.gerg_coefficients.specs.Load.{flat, doublesAt, bytesAt, runOf, criticalOf, critical}
 
@@ -16,14 +16,7 @@ use Rattle.gerg_coefficients.specs.Load.{flat, doublesAt, bytesAt, runOf
 pub room : (per k count : ℕ) → k < count → per * k + per ≤ per * count
 room per k count h = let g : suc k ≤ count = omega arith in omega (arith, mul-le-mul-left per g, mul-suc per k)
 
--- b stored, and then c right after it
-pub sets-append : {A : Type 0} (b c l : List A) (to : ℕ) → sets (sets l to b) (to + length b) c ≡ sets l to (b ++ c)
-sets-append [] c l to = ap (λ (k : ℕ). sets l k c) (omega arith)
-sets-append (a ∷ b) c l to =
-    ap (λ (k : ℕ). sets (sets (set l to a) (suc to) b) k c) (let e : to + suc (length b) ≡ suc to + length b = omega arith in e)
-    ∙ sets-append b c (set l to a) (suc to)
-
--- the same for a list stored piece by piece
+-- a list stored piece by piece
 sets-on : {A : Type 0} (b c l : List A) (to n : ℕ) {o o′ : List A} → length b ≡ n → o ≡ sets l to b → o′ ≡ sets o (to + n) c → o′ ≡ sets l to (b ++ c)
 sets-on b c l to n {o} e i t =
     t ∙ ap (λ (k : ℕ). sets o (to + k) c) (sym e) ∙ ap (λ (o : List _). sets o (to + length b) c) i ∙ sets-append b c l to

@@ -13,10 +13,15 @@ GERG-2008 gas properties. Units: K, Pa, mol/m³.
   gerg saturation --mix MIX --p P [--lo T --hi T] [--limit N]
   gerg curve      --mix MIX --t T [--from P] [--to P] [--points N] [--out NAME]
                   density and speed of sound over pressure, 100 points from 1e5 to 1e7 Pa, in curve.csv and curve.svg, if not said otherwise
+  gerg states     --mix MIX --seed S --states N [--first N] [--jobs N]
+                  properties at N states drawn from a seed, counted: seed and N on a line, then number and count of each refusal met
+  gerg state      --seed S --n N                          temperature and density of state N, the first being 0, with their bits
   gerg check FILE                                         is a coefficient file accepted?
   gerg components                                         names and numbers
 
   MIX is name=fraction,name=fraction,..  as methane=0.9,ethane=0.1; the fractions add up to 1 within 1e-9
+  S is a whole number of 64 bits but 0, decimal or hexadecimal as 0x1F
+  --jobs N      states: parts of the run that are worked out at a time (default: one a processor)
   --file FILE   coefficient file (default: data/gerg-2008.bin, here or in the repository that this program was built in)
   --json        the answer as JSON
   --bits        each double as its bit pattern
@@ -95,9 +100,17 @@ impl Arguments {
         self.number(name)?.ok_or_else(|| self.fault(format!("{name} is missing")))
     }
 
-    pub fn count(&self, name: &str, default: u64) -> Result<u64, Fault> {
-        let parse = |word: &str| word.parse().map_err(|_| self.fault(format!("{name}: '{word}' is no whole number")));
-        Ok(self.text(name).map(parse).transpose()?.unwrap_or(default))
+    /// A whole number that `T` holds, decimal or 0x and hexadecimal.
+    pub fn whole<T: TryFrom<u64>>(&self, name: &str, default: Option<T>) -> Result<T, Fault> {
+        let Some(word) = self.text(name) else {
+            return default.ok_or_else(|| self.fault(format!("{name} is missing")));
+        };
+        let read = match word.strip_prefix("0x") {
+            Some(digits) => u64::from_str_radix(digits, 16).ok().filter(|_| !digits.starts_with('+')),
+            None => word.parse().ok(),
+        };
+        let bits = 8 * size_of::<T>();
+        read.and_then(|value| T::try_from(value).ok()).ok_or_else(|| self.fault(format!("{name}: '{word}' is no whole number of {bits} bits")))
     }
 
     /// Both of two options or neither.

@@ -4,16 +4,13 @@
 //! density found by the search (lightest.rs). The column `by` says which. No phase is claimed: where a point has several roots, the lightest
 //! need not be the stable one, and where the vapour's branch has ended, the lightest is a liquid's. A refused point has its number and no values.
 use crate::arguments::Arguments;
-use crate::commands::Input;
 use crate::format::exact;
+use crate::input::Input;
+use crate::progress::Progress;
 use crate::report::named;
 use crate::svg::{Panel, picture};
 use crate::{Fault, lightest};
 use gerg::{Refusal, State};
-use std::time::{Duration, Instant};
-
-/// Nothing is said of progress before this.
-const QUIET: Duration = Duration::from_secs(2);
 
 struct Point {
     p: f64,
@@ -36,15 +33,11 @@ fn point(input: &Input, t: f64, p: f64) -> Point {
 }
 
 fn points(input: &Input, t: f64, pressures: &[f64]) -> Vec<Point> {
-    let start = Instant::now();
-    let mut said = QUIET;
+    let mut progress = Progress::new("curve", "points", pressures.len() as u64);
     let mut points = Vec::new();
-    for (k, p) in pressures.iter().enumerate() {
-        if start.elapsed() >= said {
-            said = start.elapsed() + Duration::from_secs(1);
-            eprintln!("gerg: curve: {k} of {} points", pressures.len());
-        }
+    for p in pressures {
         points.push(point(input, t, *p));
+        progress.made(1);
     }
     points
 }
@@ -96,7 +89,7 @@ fn svg(input: &Input, t: f64, range: [f64; 2], points: &[Point]) -> String {
 
 fn range(arguments: &Arguments) -> Result<([f64; 2], usize), Fault> {
     let [from, to] = [arguments.number("--from")?.unwrap_or(1e5), arguments.number("--to")?.unwrap_or(1e7)];
-    let count = arguments.count("--points", 100)?;
+    let count = arguments.whole::<u64>("--points", Some(100))?;
     if !(from > 0.0 && from < to && to <= 35e6) {
         return Err(arguments.fault(format!("--from {} --to {}: pressures must rise within (0, 35e6]", exact(from), exact(to))));
     }

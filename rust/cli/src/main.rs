@@ -5,8 +5,11 @@ mod arguments;
 mod commands;
 mod curve;
 mod format;
+mod input;
 mod lightest;
+mod progress;
 mod report;
+mod states;
 mod svg;
 
 use std::io::Write;

@@ -20,6 +20,12 @@ mod archive {
         fn gerg_density(t: f64, target: f64, lo: f64, hi: f64, limit: u64, tolerance: f64, out: *mut f64);
         fn gerg_outer_roots(t: f64, p: f64, out: *mut f64, out_len: usize);
         fn gerg_pure_saturation(p: f64, lo: f64, hi: f64, limit: u64, out: *mut f64);
+        fn gerg_count_refusals(seed: u64, first: u32, states: u32, out: *mut u64);
+    }
+
+    // The one that starts with no slice.
+    unsafe extern "C" {
+        pub fn gerg_state_at(seed: u64, n: u32, out: *mut f64) -> u64;
     }
 }
 
@@ -52,4 +58,13 @@ pub fn outer_roots(file: &[u8], mixture: &Mixture, t: f64, p: f64, out: &mut [f6
 
 pub fn pure_saturation(file: &[u8], mixture: &Mixture, p: f64, [lo, hi]: [f64; 2], limit: u64, out: &mut [f64; 9]) -> u64 {
     call!(gerg_pure_saturation, file, mixture, p, lo, hi, limit, out.as_mut_ptr())
+}
+
+pub fn count_refusals(file: &[u8], mixture: &Mixture, seed: u64, first: u32, states: u32, out: &mut [u64; 38]) -> u64 {
+    call!(gerg_count_refusals, file, mixture, seed, first, states, out.as_mut_ptr())
+}
+
+pub fn state_at(seed: u64, n: u32, out: &mut [f64; 2]) -> u64 {
+    // SAFETY: `out` has the places that the export writes.
+    unsafe { archive::gerg_state_at(seed, n, out.as_mut_ptr()) }
 }

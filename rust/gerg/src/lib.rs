@@ -2,7 +2,7 @@
 //!
 //! Units: K, Pa, mol/m³, kg/m³, J/mol, J/(mol K), m/s.
 //!
-//! Each call starts from the bytes of a coefficient file and a mixture, and either answers or says by a [`Refusal`] why not.
+//! Each call but [`state_at`] starts from the bytes of a coefficient file and a mixture, and either answers or says by a [`Refusal`] why not.
 //! No call makes a claim about the phase: a state is what the equation gives at that temperature and density.
 //!
 //! ```
@@ -20,12 +20,14 @@ mod calls;
 mod component;
 mod exports;
 mod refusal;
+mod states;
 
 pub use calls::{
     Density, Derivatives, Root, Saturation, Search, State, check, density, fugacity, outer_roots, properties, pure_saturation,
 };
 pub use component::{Component, Mixture, UnknownComponent};
 pub use refusal::{Cause, Refusal};
+pub use states::{Counts, DrawnState, count_refusals, state_at};
 
 /// The coefficient file of this repository.
 pub const DEFAULT_FILE: &str = concat!(env!("CARGO_MANIFEST_DIR"), "/../../data/gerg-2008.bin");

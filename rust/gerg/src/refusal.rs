@@ -10,7 +10,7 @@ macro_rules! causes {
 
         impl Cause {
             /// All, in the order of their numbers.
-            pub const ALL: [Cause; 26] = [$(Cause::$variant,)*];
+            pub const ALL: [Cause; 27] = [$(Cause::$variant,)*];
 
             /// In plain words.
             pub fn words(self) -> &'static str {
@@ -47,6 +47,7 @@ causes! {
     OutTooShort = 24 "memory lent for the answer too short",
     BadSaturation = 25 "saturation: one positive fraction and finite, rising ends are needed",
     SaturationExhausted = 26 "saturation: limit of trials reached, or no double left between the ends",
+    ZeroSeed = 27 "states: the seed is zero",
 }
 
 impl Cause {
@@ -69,7 +70,7 @@ impl Refusal {
         if number == 0 {
             return Ok(value);
         }
-        let cause = Cause::of_number(number).expect("the archive answers one of the 26 numbers");
+        let cause = Cause::of_number(number).expect("the archive answers one of the 27 numbers");
         Err(Refusal { cause, value })
     }
 

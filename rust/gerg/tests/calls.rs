@@ -19,9 +19,9 @@ fn components_have_the_numbers_1_to_21_and_distinct_names() {
 }
 
 #[test]
-fn causes_have_the_numbers_1_to_26() {
+fn causes_have_the_numbers_1_to_27() {
     let numbers: Vec<u32> = Cause::ALL.iter().map(|each| *each as u32).collect();
-    assert_eq!(numbers, (1..=26).collect::<Vec<u32>>());
+    assert_eq!(numbers, (1..=27).collect::<Vec<u32>>());
 }
 
 /// data/README.md: the NIST AGA8 example, 50 MPa, is beyond the range; near it, at 30 MPa, the state is accepted.
@@ -82,4 +82,30 @@ fn saturation_found_and_not_enclosed() {
     assert_eq!((found.vapour_compressibility, found.liquid_compressibility), (vapour.compressibility, liquid.compressibility));
     assert_eq!(found.ln_fugacity_coefficient, vapour.ln_fugacity_coefficients[0]);
     assert_eq!(gerg::pure_saturation(&file(), &propane, 5e5, [280.0, 300.0], 100), Ok(None));
+}
+
+#[test]
+fn states_alone_and_in_a_run() {
+    let seed = 0x8000_0000_0000_3039;
+    let run = gerg::count_refusals(&file(), &gas(), seed, 0, 300).unwrap();
+    let alone = |n| {
+        let state = gerg::state_at(seed, n).unwrap();
+        assert!((200.0..=450.0).contains(&state.temperature) && (1e-3..=30000.0).contains(&state.density));
+        gerg::properties(&file(), &gas(), state.temperature, state.density).err().map(|refusal| refusal.cause)
+    };
+    let causes: Vec<Option<Cause>> = (0..300).map(alone).collect();
+    let among = |cause: Option<Cause>| causes.iter().filter(|each| **each == cause).count() as u64;
+    assert_eq!(run.accepted(), among(None));
+    assert!(Cause::ALL.into_iter().all(|cause| run.refused(cause) == among(Some(cause))));
+    let parts = [(0, 299), (299, 1)].map(|(first, states)| gerg::count_refusals(&file(), &gas(), seed, first, states).unwrap());
+    assert_eq!(parts.into_iter().sum::<gerg::Counts>(), run);
+}
+
+#[test]
+fn a_zero_seed_is_refused_first() {
+    let zero = Err(Refusal { cause: Cause::ZeroSeed, value: 0 });
+    assert_eq!(gerg::state_at(0, 7).map(|_| ()), zero);
+    assert_eq!(gerg::count_refusals(&[], &Mixture::new([]), 0, 0, 1).map(|_| ()), zero);
+    assert_eq!(gerg::count_refusals(&[], &Mixture::new([]), 1, 0, 1), Err(Refusal { cause: Cause::BadFile, value: 0 }));
+    assert_eq!(zero.unwrap_err().to_string(), "refused, number 27: states: the seed is zero");
 }

@@ -51,6 +51,14 @@ unfolding propertiesOf propertiesFrom evaluatedOf statedOf
 properties-state bytes list fractions temperature rho s n e =
     after-nothing answer.Refused (mixedOf bytes list fractions .refusal) (statedOf (evaluateOf (tablesOf bytes) (mixedOf bytes list fractions .model) normalRange temperature rho)) n ∙ ap statedOf e
 
+pub properties-number-is :
+    (bytes list : List ℕ) (fractions : List Float) (temperature rho : Float) → mixedOf bytes list fractions .refusal ≡ Nothing →
+    ofProperties.numberOf (propertiesOf bytes list fractions temperature rho) ≡ ofEvaluate.numberOf (evaluateOf (tablesOf bytes) (mixedOf bytes list fractions .model) normalRange temperature rho)
+unfolding propertiesOf propertiesFrom evaluatedOf
+properties-number-is bytes list fractions temperature rho n =
+    let e = evaluateOf (tablesOf bytes) (mixedOf bytes list fractions .model) normalRange temperature rho in
+    ap ofProperties.numberOf (after-nothing answer.Refused (mixedOf bytes list fractions .refusal) (statedOf e) n) ∙ stated-number e
+
 -- and `density`
 pub density-answer :
     (bytes list : List ℕ) (fractions : List Float) (temperature target : Float) (o : Options) → mixedOf bytes list fractions .refusal ≡ Nothing →

@@ -1,5 +1,6 @@
 -- `tablecheck::line::line` meets its contract. Assumes nothing.
-use Rattle.tablecheck.proofs.Digits.{line-is}
+use native.Mathlib.Omega.{arith}
+use Rattle.tablecheck.proofs.Answer.{line-is}
 use borrow.Author.Needs.{needs}
 use Rattle.tablecheck.proofs.line.line.Statement.{statement}
 use Rattle.tablecheck.proofs.line.line.Tie as tie
@@ -18,8 +19,9 @@ put-line-requires c κs = search needs
 
 returns : tie.Need-returns
 returns c =
-    rw (line-is _ (c .before .before .before .before .read-tables .ensures) (c .before .before .before .number .ensures) (c .before .before .value .ensures)) at
-    (c .put-line .ensures)
+    let e = line-is _ (c .before .before .before .before .read-tables .ensures) (c .before .before .before .number .ensures) (c .before .before .value .ensures) in
+    let stored = rw e at (c .put-line .ensures) in
+    (stored .0, (omega (arith, stored .1 .0), stored .1 .1))
 
 pub line-spec : {M : Type 1} → statement M
 line-spec = tie.close (tie.spec read-tables-requires number-requires value-requires put-line-requires returns)

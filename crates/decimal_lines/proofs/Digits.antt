@@ -8,12 +8,8 @@ use borrow.Author.Tests.{lt-ltb, le-ltb}
 use lib.Dec.{ltb}
 use lib.ListN.{length, set, length-append}
 use lib.Seq.{sets}
-use Rattle.gerg_coefficients.specs.declared.TableFile.{TableFile}
-use Rattle.gerg_coefficients.specs.Answer.{numberOf, valueOf, answerOf}
-use Rattle.gerg_coefficients.specs.TableFile.{tableFileOf}
-use Rattle.gerg_coefficients.proofs.Cases.{read-answer}
-use Rattle.gerg_coefficients.proofs.Put.{sets-append}
-use Rattle.tablecheck.specs.Line.{decimal, lineFrom, lineOf}
+use Rattle.numerics.specs.Fill.{sets-append}
+use Rattle.decimal_lines.specs.Line.{decimal, lineFrom}
 
 pub positive : (n : ℕ) → (n ≡ 0 → ⊥) → 0 < n
 positive zero h = absurd (h refl)
@@ -73,29 +69,22 @@ module _ (k n at : ℕ) (l : List ℕ) where
       (stored-after a l o at next (48 + n % 10) e m ∙ ap (sets l at) (sym d), (rw d (omega (arith, one-more a (48 + n % 10))), omega arith))
 
 -- number, space, value and the line's end
-pub line-stored : (number value space end : ℕ) (l o o′ : List ℕ) → o ≡ sets l 0 (decimal 20 number) → space ≡ 0 + length (decimal 20 number)
+pub line-stored : (number value at space end : ℕ) (l o o′ : List ℕ) → o ≡ sets l at (decimal 20 number) → space ≡ at + length (decimal 20 number)
     → o′ ≡ sets (set o space 32) (space + 1) (decimal 20 value) → end ≡ space + 1 + length (decimal 20 value)
-    → (set o′ end 10 ≡ sets l 0 (lineFrom number value)) × ((end + 1 ≡ length (lineFrom number value)) × (end + 1 ≤ 42))
+    → (set o′ end 10 ≡ sets l at (lineFrom number value)) × ((end + 1 ≡ at + length (lineFrom number value)) × (end + 1 ≤ at + 42))
 unfolding lineFrom
-line-stored number value space end l o o′ e m e′ m′ =
+line-stored number value at space end l o o′ e m e′ m′ =
     let a = decimal 20 number in
     let b = decimal 20 value in
-    let p = stored-after a l o 0 space 32 e m in
+    let p = stored-after a l o at space 32 e m in
     let q = stored-after b (set o space 32) o′ (space + 1) end 10 e′ m′ in
     let x = one-more a 32 in
     let y = one-more b 10 in
-    let w : space + 1 ≡ 0 + length (a ++ (32 ∷ [])) = omega arith in
+    let w : space + 1 ≡ at + length (a ++ (32 ∷ [])) = omega arith in
     let z = length-append (a ++ (32 ∷ [])) (b ++ (10 ∷ [])) in
     let i = length-decimal 20 number in
     let j = length-decimal 20 value in (
-      q ∙ ap (λ (r : List ℕ). sets r (space + 1) (b ++ (10 ∷ []))) p ∙ ap (λ (k : ℕ). sets (sets l 0 (a ++ (32 ∷ []))) k (b ++ (10 ∷ []))) w
-          ∙ sets-append (a ++ (32 ∷ [])) (b ++ (10 ∷ [])) l 0,
+      q ∙ ap (λ (r : List ℕ). sets r (space + 1) (b ++ (10 ∷ []))) p ∙ ap (λ (k : ℕ). sets (sets l at (a ++ (32 ∷ []))) k (b ++ (10 ∷ []))) w
+          ∙ sets-append (a ++ (32 ∷ [])) (b ++ (10 ∷ [])) l at,
       (omega arith, omega arith),
     )
-
--- the line of a file that was read
-pub line-is : (bytes : List ℕ) {r : TableFile} {number value : ℕ} → r ≡ tableFileOf bytes → number ≡ numberOf (r .answer) → value ≡ valueOf (r .answer)
-    → lineFrom number value ≡ lineOf (answerOf bytes)
-line-is bytes e n v =
-    let a = read-answer bytes e in
-    rw (n ∙ ap numberOf a, v ∙ ap valueOf a)

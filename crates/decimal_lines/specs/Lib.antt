@@ -1,0 +1,2 @@
+-- Lines of two decimal numbers.
+pub mod Line

@@ -1,0 +1,6 @@
+-- Laws of the generator.
+pub mod Xor
+pub mod Word
+pub mod Unit
+pub mod Range
+pub mod Alone

@@ -1,0 +1,2 @@
+-- What the layers above use of the generator.
+pub mod Laws

@@ -1,0 +1,2 @@
+-- The generator, its draws and its states.
+pub mod Generator

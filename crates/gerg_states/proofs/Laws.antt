@@ -1,0 +1,3 @@
+-- Laws of the counts of a run, and of the numbers that are counted.
+pub mod Counts
+pub mod Numbers

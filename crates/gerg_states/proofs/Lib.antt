@@ -1,0 +1,3 @@
+-- What the layers above use of a run.
+pub mod Laws
+pub mod Promises

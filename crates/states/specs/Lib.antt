@@ -1,0 +1,2 @@
+-- What the program reads and what it prints.
+pub mod Text
