@@ -101,6 +101,11 @@ pub call-tables : (bytes : List ℕ) (r : TableFile) → r ≡ tableFileOf bytes
 unfolding tableFileOf
 call-tables bytes r read = rw read
 
+-- two files with one answer and the same tables make the same mixture
+pub same-mixed : (a b list : List ℕ) (fractions : List Float) → answerOf a ≡ answerOf b → tablesOf a ≡ tablesOf b → mixedOf a list fractions ≡ mixedOf b list fractions
+unfolding mixedOf
+same-mixed a b list fractions answer same = rw (answer, same)
+
 -- ---- where rows 1 to 5 refuse nothing, what follows them
 pub after-nothing : {A : Type 0} (refused : ℕ → ℕ → A) (r : Refusal) (later : A) → r ≡ Nothing → afterRows refused r later ≡ later
 unfolding afterRows

@@ -30,7 +30,7 @@ use Rattle.gerg_calls.specs.Calls.{propertiesOf}
 use Rattle.gerg_states.specs.declared.Run.{Run}
 use Rattle.gerg_states.specs.States.{seedRefusal, stateWritten, numberAt, countOf, countsOf, runOf, runRefusal, countsWritten, refusalCode}
 use Rattle.gerg_states.proofs.Laws.Counts.{count-one, count-split, count-none, count-total, sum-same}
-use Rattle.gerg_states.proofs.Laws.Numbers.{number-at-most, state-within, number-late, prepared-number, after-seed}
+use Rattle.gerg_states.proofs.Laws.Numbers.{number-at-most, state-within, number-late, prepared-number, after-seed, accepted-counts}
 
 -- ---- a refusal's number and value
 coded : (r : Refusal) → valueOf r < 2 ^ 32 → refusalCode r ≡ numberOf r * 2 ^ 32 + valueOf r
@@ -125,9 +125,8 @@ module _ (bytes list : List ℕ) (fractions : List Float) where
 
     -- "for each number how many of" the states "`propertiesOf` refuses under it"
     pub counts-write : (first states k : ℕ) (out : List ℕ) → k < 38 → counted first states out k ≡ countOf (numberAt bytes list fractions seed) first states k
-    unfolding countsWritten countsOf
     counts-write first states k out h =
-        ap (λ (l : List ℕ). getD l k 0) (memory-nothing (runRefusal bytes list fractions seed) out (countsOf bytes list fractions (runOf seed first states)) (run-accepted seed accepted .0))
+        ap (λ (l : List ℕ). getD l k 0) (accepted-counts bytes list fractions (runOf seed first states) out (run-accepted seed accepted .0))
         ∙ getD-tabulate (countOf (numberAt bytes list fractions seed) first states) 38 k 0 h
 
     -- in a run of the one state n the count is of what `properties` answers at the T and the density that `state_at` writes for n

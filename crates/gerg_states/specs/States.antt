@@ -31,9 +31,12 @@ unfoldable pub countOf : (ℕ → ℕ) → ℕ → ℕ → ℕ → ℕ
 countOf f first zero number = 0
 countOf f first (suc states) number = countOf f first states number + pick (eqb (f (first + states)) number) 1 0
 
--- "each refusal met with its count": for each number of the table, and for 0, the accepted ones, how many states of the run have it
+-- "each refusal met with its count": for each number of the table, and for 0, the accepted ones, how many states of the run have it, where state n has number f n
+unfoldable pub countsBy : (ℕ → ℕ) → Run → List ℕ
+countsBy f run = tabulate (countOf f (run .first) (run .states)) 38
+
 unfoldable pub countsOf : List ℕ → List ℕ → List Float → Run → List ℕ
-countsOf bytes list fractions run = tabulate (countOf (numberAt bytes list fractions (run .seed)) (run .first) (run .states)) 38
+countsOf bytes list fractions run = countsBy (numberAt bytes list fractions (run .seed)) run
 
 -- the run of a C caller
 abbrev pub runOf : ℕ → ℕ → ℕ → Run

@@ -2,15 +2,16 @@
 use mathlib.Core.Path.{_≡_, refl, sym, _∙_, subst}
 use mathlib.Core.Logic.{_⊎_, inl, inr}
 use Prim.Native.Nat.{ℕ, _+_, _-_, _*_, _^_, _≤_, _<_}
-use native.Mathlib.Nat.{mul-pos, zero-mul, eq-of-mul-eq-mul-right, eq-zero-or-pos, one-le-pow}
+use native.Mathlib.Nat.{mul-pos, mul-le-mul-right, zero-mul, eq-of-mul-eq-mul-right, eq-zero-or-pos, one-le-pow}
 use native.Mathlib.Omega.{arith}
 use mathlib.Core.Bool.{Bool, true, false, not, true≢false}
 use lib.Dec.{T}
 use lib.Pow.{pow-pos}
-use lib.Ieee.{Float, nan, inf, fin, Format, binary64, round, add, mul, div}
+use lib.Ieee.{Float, nan, inf, fin, Format, binary64, round, add, mul, div, le}
 use lib.Ieee.Exact.{HasValue}
+use lib.Ieee.Order.{round-mono}
 use lib.Ieee.Scale.{finite}
-use lib.Ieee.Positive.{num, den, positive, value→cross, positive-finite}
+use lib.Ieee.Positive.{num, den, positive, den-pos, le→cross, value→cross, positive-finite}
 use Rattle.numerics.specs.Frac.{Frac, _⊞_, _⊠_, big, small, small-pos, Close, close-trans, close-weaken, close-mul, close-add}
 use Rattle.numerics.specs.Round.{val, Rel, Normal, round-rel, num-pos}
 use Rattle.numerics.specs.Fixed.{zero-val}
@@ -59,6 +60,16 @@ round-rel0 q (inr n) = rel0-of-rel 1 (round binary64 false (q .top) (q .bot)) q 
 -- ---- the operators
 pub add-is0 : (f : Format) (x y : Float) → T (nonneg x) → T (nonneg y) → add f x y ≡ round f false (num x * den y + num y * den x) (den x * den y)
 add-is0 f x y p q = add-upright f x y (nonneg-finite x p) (nonneg-finite y q) (no-sign x p) (no-sign y q)
+
+-- a sum grows with what is added
+pub add-grows : (f : Format) (a x y : Float) → T (positive a) → T (positive x) → T (positive y) → T (le x y) → T (le (add f a x) (add f a y))
+add-grows f a x y A p q h =
+    rw (add-is0 f a x (nonneg-positive a A) (nonneg-positive x p), add-is0 f a y (nonneg-positive a A) (nonneg-positive y q))
+    (round-mono f (num a * den x + num x * den a) (den a * den x) (num a * den y + num y * den a) (den a * den y)
+    (mul-pos (den-pos a) (den-pos x)) (mul-pos (den-pos a) (den-pos y)) (crossed (num a) (den a) (num x) (den x) (num y) (den y) (le→cross x y p q h)))
+  where
+    crossed : (n d x p y q : ℕ) → x * q ≤ y * p → (n * p + x * d) * (d * q) ≤ (n * q + y * d) * (d * p)
+    crossed n d x p y q k = omega (arith, mul-le-mul-right (d * d) k)
 
 pub mul-is0 : (f : Format) (x y : Float) → T (nonneg x) → T (nonneg y) → mul f x y ≡ round f false (num x * num y) (den x * den y)
 mul-is0 f x y p q = mul-upright f x y (nonneg-finite x p) (nonneg-finite y q) (no-sign x p) (no-sign y q)

@@ -4,13 +4,15 @@ use mathlib.Core.Bool.{Bool, true, false, not, _||_, true≢false, false≢true}
 use Prim.Native.Nat.{ℕ, zero, suc, _+_, _*_, _≤_, _<_}
 use native.Mathlib.Nat.{lt-of-lt-of-le, lt-of-not-le, mul-pos, zero-lt-suc}
 use native.Mathlib.Omega.{arith}
-use lib.IntN.{pos}
+use borrow.Author.Tests.{le-ltb, ne-eqb}
+use lib.IntN.{ℤ, pos}
 use lib.Dec.{T, ltb, ltb→lt, nltb→le, lt→ltb, lit≤}
 use lib.Ieee.{Float, nan, inf, fin, up, down, ofBits, isNan, lt, le, eq, below, level}
 use lib.Ieee.Fits.{up-pos, down-pos}
 use lib.Ieee.Scale.{finite}
 use lib.Ieee.Positive.{num, den, positive, first-pos, cross→le}
 use Rattle.numerics.specs.Double.{+0}
+use Rattle.numerics.specs.Sign.{of-positive}
 use Rattle.numerics.specs.Tests.{clash, or-left}
 
 sum-pos : (a b : ℕ) → 0 < b → T (ltb 0 (a + b))
@@ -72,6 +74,16 @@ above-fin (fin false (suc m) e) f l = lt→ltb 0 (suc m) (zero-lt-suc m)
 
 pub above-zero : (t : Float) → finite t ≡ true → le t +0 ≡ false → T (positive t)
 above-zero t f l = above-fin t f (subst (λ (z : Float). le t z ≡ false) zero-is l)
+
+-- and one above zero is not at most zero
+pub not-at-most-zero : (t : Float) → T (positive t) → le t +0 ≡ false
+unfolding le lt eq
+not-at-most-zero t p = subst (λ (z : Float). le t z ≡ false) (sym zero-is) (of-positive (λ (x : Float). le x (fin false 0 (pos 0)) ≡ false) each t p)
+  where
+    each : (m : ℕ) (e : ℤ) → 0 < m → le (fin false m e) (fin false 0 (pos 0)) ≡ false
+    each m e h =
+        let g : 0 < m * up e = mul-pos h (up-pos e) in
+        rw (le-ltb (m * up e * 1) (0 * 1 * down e) (omega arith), ne-eqb (m * up e * 1) (0 * 1 * down e) (λ q. omega arith))
 
 -- ---- a number that is neither below zero nor above it is at most any double above zero
 level-fin : (t f : Float) → T (positive t) → isNan f ≡ false → lt (fin false 0 (pos 0)) f ≡ false → lt f (fin false 0 (pos 0)) ≡ false → le f t ≡ false → ⊥

@@ -3,7 +3,7 @@
 use mathlib.Core.Path.{_≡_, refl, sym, ap, _∙_, fun-ext}
 use mathlib.Core.Bool.{Bool, true, false}
 use mathlib.Core.List.{List, [], _∷_}
-use Prim.Native.Nat.{ℕ, zero, suc, _+_, _-_, _*_, _≤_, _<_}
+use Prim.Native.Nat.{ℕ, _+_, _-_, _*_, _≤_, _<_}
 use native.Mathlib.Omega.{arith}
 use borrow.Author.Tests.{ltb-true, ltb-false}
 use lib.Dec.{ltb}
@@ -11,7 +11,7 @@ use lib.Ieee.{Float}
 use lib.ListN.{length, take, drop, length-take}
 use lib.Seq.{getD-take, length-take-le, take-take, take-all, take-add, drop-at}
 use Rattle.numerics.specs.Double.{bits}
-use Rattle.numerics.specs.Fill.{tabulate}
+use Rattle.numerics.specs.Fill.{tabulate-same}
 use Rattle.gerg_file.specs.Bytes.{word, doubleAt}
 use Rattle.decimal_lines.specs.Line.{decimal, lineFrom}
 use Rattle.gerg_coefficients.specs.Load.{doublesAt}
@@ -20,19 +20,19 @@ use Rattle.gerg_coefficients.specs.Answer as File
 use Rattle.gerg_coefficients.specs.Answer.{answerOf, tablesOf}
 use Rattle.gerg_coefficients.proofs.Cut.{cut-answer, cut-tables}
 use Rattle.gerg_coefficients.proofs.Examples.{empty-file, empty-file-number}
-use Rattle.gerg_prepared.specs.Mixed.{afterRows, mixedOf}
 use Rattle.gerg_prepared.proofs.Refused.{after-refused, file-rows}
 use Rattle.gerg_prepared.specs.declared.Refusal.the-variants.{Refused}
-use Rattle.gerg_calls.specs.Calls.{propertiesOf}
-use Rattle.gerg_states.specs.States.{seedRefusal, numberAt, runRefusal}
+use Rattle.gerg_states.specs.States.{numberAt, runRefusal}
+use Rattle.gerg_states.proofs.Laws.Numbers.{same-number, same-refusal}
+use Rattle.gerg_states.proofs.Promises.{zero-seed-first, then-rows}
 use Rattle.states.specs.Text.{componentsOf, seedOf, statesOf, listOf, fractionsOf, fileStart, fileOf, reportOf, textOf}
 use Rattle.states.proofs.Input.{cut-head, whole-head}
 
 -- ---- "input cut before the file begins": row 1 at 0, whatever the seed's bytes are
 empty-refused : runRefusal [] [] [] 1 ≡ Refused 1 0
-unfolding runRefusal seedRefusal afterRows
 empty-refused =
-    file-rows [] [] [] (λ e. omega (arith, empty-file-number)) ∙ ap (λ (a : Answer). Refused (File.numberOf a) (File.valueOf a)) empty-file
+    then-rows [] [] [] 1 (λ e. omega arith) ∙ file-rows [] [] [] (λ e. omega (arith, empty-file-number))
+    ∙ ap (λ (a : Answer). Refused (File.numberOf a) (File.valueOf a)) empty-file
 
 -- "1 0"
 pub empty-report : reportOf 1 0 [] [] [] ≡ 49 ∷ 32 ∷ 48 ∷ 10 ∷ []
@@ -57,14 +57,10 @@ pub cut-anywhere : (s : List ℕ) (n : ℕ) → n < fileStart s → textOf (take
 cut-anywhere s n h = cut-input (take n s) (cut-by s n (ltb 12 n) refl h)
 
 -- ---- "27, a zero seed, tested first": `27 0`, whatever follows
-zero-refused : (list : List ℕ) (fractions : List Float) (file : List ℕ) → runRefusal file list fractions 0 ≡ Refused 27 0
-unfolding runRefusal seedRefusal afterRows
-zero-refused list fractions file = refl
-
 zero-report : (states : ℕ) (list : List ℕ) (fractions : List Float) (file : List ℕ) → reportOf 0 states list fractions file ≡ 50 ∷ 55 ∷ 32 ∷ 48 ∷ 10 ∷ []
 unfolding reportOf lineFrom decimal
 zero-report states list fractions file =
-    sym (after-refused lineFrom (runRefusal file list fractions 0) _ 27 0 (zero-refused list fractions file))
+    sym (after-refused lineFrom (runRefusal file list fractions 0) _ 27 0 (zero-seed-first file list fractions))
 
 pub zero-seed : (s : List ℕ) → fileStart s ≤ length s → seedOf s ≡ 0 → textOf s ≡ 50 ∷ 55 ∷ 32 ∷ 48 ∷ 10 ∷ []
 zero-seed s h e =
@@ -79,33 +75,16 @@ module _ (file : List ℕ) (m : ℕ) (h : 28378 ≤ m) where
   tables-cut = sym (cut-tables (take m file)) ∙ ap tablesOf (take-take 28378 m file h) ∙ cut-tables file
 
   module _ (seed states : ℕ) (list : List ℕ) (fractions : List Float) where
-    mixed-cut : mixedOf (take m file) list fractions ≡ mixedOf file list fractions
-    unfolding mixedOf
-    mixed-cut = let a = file-cut in let t = tables-cut in cc
-
-    number-cut : (n : ℕ) → numberAt (take m file) list fractions seed n ≡ numberAt file list fractions seed n
-    unfolding numberAt propertiesOf
-    number-cut n = let e = mixed-cut in let t = tables-cut in cc
-
-    refusal-cut : runRefusal (take m file) list fractions seed ≡ runRefusal file list fractions seed
-    unfolding runRefusal
-    refusal-cut = let e = mixed-cut in cc
-
     report-cut : reportOf seed states list fractions (take m file) ≡ reportOf seed states list fractions file
     unfolding reportOf
     report-cut =
-        let r = refusal-cut in
-        let n : numberAt (take m file) list fractions seed ≡ numberAt file list fractions seed = fun-ext number-cut in
+        let r = same-refusal (take m file) file list fractions seed file-cut tables-cut in
+        let n : numberAt (take m file) list fractions seed ≡ numberAt file list fractions seed = fun-ext (same-number (take m file) file list fractions seed file-cut tables-cut) in
         cc
 
 -- ---- an input cut after 30,686 bytes or more: 13, 9 for each of 255 components, and those of the file
 drop-take : (n m : ℕ) (l : List ℕ) → n ≤ length l → drop n (take (n + m) l) ≡ take m (drop n l)
 drop-take n m l h = ap (drop n) (take-add n m l) ∙ drop-at (take n l) (take m (drop n l)) n (length-take-le n l h)
-
-tabulate-same : {A : Type 0} (f g : ℕ → A) (n : ℕ) → ((k : ℕ) → k < n → f k ≡ g k) → tabulate f n ≡ tabulate g n
-unfolding tabulate
-tabulate-same f g zero e = refl
-tabulate-same f g (suc n) e = let a = tabulate-same f g n (λ k h. e k (omega arith)) in let b = e n (omega arith) in cc
 
 module _ (s : List ℕ) (n : ℕ) (small : componentsOf s < 256) (h : 30686 ≤ n) (long : n < length s) where
   word-cut : (at : ℕ) → at + 8 ≤ n → word (take n s) at ≡ word s at

@@ -8,11 +8,12 @@ use lib.ListN.{length, getD, length-append}
 use lib.Seq.{sets}
 use Rattle.numerics.specs.Fill.{tabulate, length-tabulate, getD-tabulate, sets-append}
 use Rattle.decimal_lines.specs.Line.{lineFrom, countLines}
-use Rattle.gerg_prepared.proofs.Laws.{after-nothing, memory-nothing}
+use Rattle.gerg_prepared.proofs.Laws.{after-nothing}
 use Rattle.gerg_prepared.proofs.Refused.{after-refused}
 use Rattle.gerg_prepared.specs.declared.Refusal.{Refusal}
 use Rattle.gerg_prepared.specs.declared.Refusal.the-variants.{Nothing, Refused}
-use Rattle.gerg_states.specs.States.{numberAt, countOf, countsOf, runOf, runRefusal, countsWritten}
+use Rattle.gerg_states.specs.States.{numberAt, countOf, runOf, runRefusal, countsWritten}
+use Rattle.gerg_states.proofs.Laws.Numbers.{accepted-counts}
 use Rattle.states.specs.Text.{linesOf, reportOf}
 
 -- the same counts, the same lines
@@ -37,8 +38,7 @@ module _ (seed states : ℕ) (list : List ℕ) (fractions : List Float) (file : 
   -- nothing refused: the 38 places afterwards
   counts-are : {a : Refusal} (counts out : List ℕ) → a ≡ Nothing → a ≡ runRefusal file list fractions seed
       → counts ≡ countsWritten file list fractions (runOf seed 0 states) out → counts ≡ tabulate (countOf (numberAt file list fractions seed) 0 states) 38
-  unfolding countsWritten countsOf
-  counts-are counts out n e w = w ∙ memory-nothing (runRefusal file list fractions seed) out (countsOf file list fractions (runOf seed 0 states)) (sym e ∙ n)
+  counts-are counts out n e w = w ∙ accepted-counts file list fractions (runOf seed 0 states) out (sym e ∙ n)
 
   pub counts-length : {a : Refusal} (counts out : List ℕ) → a ≡ Nothing → a ≡ runRefusal file list fractions seed
       → counts ≡ countsWritten file list fractions (runOf seed 0 states) out → 38 ≡ length counts

@@ -2,18 +2,18 @@
 use mathlib.Core.Path.{_≡_, refl}
 use mathlib.Core.Bool.{false}
 use mathlib.Core.Logic.{⊎-elim}
-use Prim.Native.Nat.{ℕ, _+_, _*_, _/_, _^_, _≤_, _<_}
-use native.Mathlib.Nat.{le-refl, mod-lt, mul-pos, mul-le-mul-right, eq-zero-or-pos}
+use Prim.Native.Nat.{ℕ, _+_, _*_, _/_, _^_, _<_}
+use native.Mathlib.Nat.{le-refl, mod-lt, eq-zero-or-pos}
 use native.Mathlib.Omega.{arith}
 use lib.Dec.{T}
 use lib.IntN.{pos}
 use lib.Pow.{pow-pos}
 use lib.Ieee.{Float, binary64, ofInt, ofBits, add, mul, div, le}
 use lib.Ieee.Exact.{HasValue}
-use lib.Ieee.Order.{le-of-values, round-mono}
-use lib.Ieee.Positive.{num, den, positive, den-pos, le→cross, cross→le, positive-of-value, le-trans-positive, between, mul-mono}
+use lib.Ieee.Order.{le-of-values}
+use lib.Ieee.Positive.{num, den, positive, cross→le, positive-of-value, le-trans-positive, between, mul-mono}
 use Rattle.numerics.specs.Double.{_⊕_, _⊗_, _⊘_, bits, one}
-use Rattle.numerics.specs.Nonneg.{nonneg-positive, add-is0}
+use Rattle.numerics.specs.Nonneg.{add-grows}
 use Rattle.generator.specs.Generator.{unitOf, temperatureOf, densityOf, drawnOf, drawOf, stateOf}
 use Rattle.generator.proofs.Laws.Unit.{unit-below, unit-exact}
 
@@ -28,16 +28,6 @@ least-value = (refl, refl)
 one-value : HasValue one false 1 1
 unfolding ofBits
 one-value = (refl, refl)
-
--- a sum grows with what is added
-sum-grows : (a x y : Float) → T (positive a) → T (positive x) → T (positive y) → T (le x y) → T (le (a ⊕ x) (a ⊕ y))
-sum-grows a x y A p q h =
-    rw (add-is0 binary64 a x (nonneg-positive a A) (nonneg-positive x p), add-is0 binary64 a y (nonneg-positive a A) (nonneg-positive y q))
-    (round-mono binary64 (num a * den x + num x * den a) (den a * den x) (num a * den y + num y * den a) (den a * den y)
-    (mul-pos (den-pos a) (den-pos x)) (mul-pos (den-pos a) (den-pos y)) (crossed (num a) (den a) (num x) (den x) (num y) (den y) (le→cross x y p q h)))
-  where
-    crossed : (n d x p y q : ℕ) → x * q ≤ y * p → (n * p + x * d) * (d * q) ≤ (n * q + y * d) * (d * p)
-    crossed n d x p y q k = omega (arith, mul-le-mul-right (d * d) k)
 
 -- a + b × u for the three u that bound it: 0, 2^-53 and 1
 abbrev affine : Float → Float → Float → Float
@@ -76,8 +66,8 @@ module _ (a b lo hi : Float) (B : Bounded a b lo hi) where
       let m = mul-mono binary64 b b least u (B .factor) (B .factor) s U i f in
       let n = mul-mono binary64 b b u one (B .factor) (B .factor) U w i g in
       let R = between (b ⊗ least) (b ⊗ u) (b ⊗ one) (B .product-least) (B .product-one) m n in
-      let l = sum-grows a (b ⊗ least) (b ⊗ u) (B .first) (B .product-least) R m in
-      let h = sum-grows a (b ⊗ u) (b ⊗ one) (B .first) R (B .product-one) n in
+      let l = add-grows binary64 a (b ⊗ least) (b ⊗ u) (B .first) (B .product-least) R m in
+      let h = add-grows binary64 a (b ⊗ u) (b ⊗ one) (B .first) R (B .product-one) n in
       let S = between (affine a b least) (affine a b u) (affine a b one) (B .at-least) (B .at-one) l h in (
         le-trans-positive lo (affine a b least) (affine a b u) (B .low) (B .at-least) S (B .from-least) l,
         le-trans-positive (affine a b u) (affine a b one) hi S (B .at-one) (B .high) h (B .to-one),

@@ -7,7 +7,7 @@ use lib.Ieee.{Float, nan}
 use lib.ListN.{getD}
 use Rattle.numerics.specs.Fill.{filled}
 use Rattle.gerg_tables.specs.declared.Tables.{Tables}
-use Rattle.gerg_coefficients.specs.Answer.{tablesOf}
+use Rattle.gerg_coefficients.specs.Answer.{answerOf, tablesOf}
 use Rattle.gerg.specs.Helmholtz.{normalRange}
 use Rattle.gerg.specs.Evaluate.{evaluateOf}
 use Rattle.gerg.specs.declared.GergState.{GergState}
@@ -26,7 +26,7 @@ use Rattle.gerg_density.specs.declared.DensityAnswer.the-variants as density
 use Rattle.gerg_prepared.specs.Mixed.{mixedOf, gradientRows}
 use Rattle.gerg_prepared.specs.declared.Mixed.{Mixed}
 use Rattle.gerg_prepared.specs.declared.Refusal.the-variants.{Nothing}
-use Rattle.gerg_prepared.proofs.Laws.{after-nothing}
+use Rattle.gerg_prepared.proofs.Laws.{after-nothing, same-mixed}
 use Rattle.gerg_answers.specs.PropertiesNumbers as ofProperties
 use Rattle.gerg_answers.specs.declared.PropertiesAnswer.the-variants as answer
 use Rattle.gerg_calls.specs.Calls.{statedOf, evaluatedOf, propertiesFrom, propertiesOf, withCoefficients, fugacityAfter, memoryAfter, densityCall, densityFrom}
@@ -58,6 +58,12 @@ unfolding propertiesOf propertiesFrom evaluatedOf
 properties-number-is bytes list fractions temperature rho n =
     let e = evaluateOf (tablesOf bytes) (mixedOf bytes list fractions .model) normalRange temperature rho in
     ap ofProperties.numberOf (after-nothing answer.Refused (mixedOf bytes list fractions .refusal) (statedOf e) n) ∙ stated-number e
+
+-- two files with one answer and the same tables have the same properties
+pub same-properties :
+    (a b list : List ℕ) (fractions : List Float) (temperature rho : Float) → answerOf a ≡ answerOf b → tablesOf a ≡ tablesOf b → propertiesOf a list fractions temperature rho ≡ propertiesOf b list fractions temperature rho
+unfolding propertiesOf
+same-properties a b list fractions temperature rho answer same = rw (same, same-mixed a b list fractions answer same)
 
 -- and `density`
 pub density-answer :

@@ -1,7 +1,7 @@
 -- The counts of a run: one state more, two parts of a run together, and all places together. Assumes nothing.
 use mathlib.Core.Path.{_≡_, refl, sym, ap, ap₂, _∙_, subst}
 use mathlib.Core.Bool.{Bool, true, false}
-use mathlib.Core.List.{List, [], _∷_, _++_}
+use mathlib.Core.List.{List}
 use Prim.Native.Nat.{ℕ, zero, suc, _+_, _≤_, _<_}
 use native.Mathlib.Numerals.{add-one}
 use native.Mathlib.Omega.{arith}
@@ -11,9 +11,10 @@ use lib.Dec.{eqb, ltb}
 use lib.ListN.{getD, set, replicate, length-set, length-replicate, getD-replicate}
 use lib.Seq.{ext-getD, getD-set-same, getD-set-other}
 use Rattle.numerics.specs.Double.{pick}
-use Rattle.numerics.specs.Fill.{tabulate, length-tabulate, getD-tabulate}
+use Rattle.numerics.specs.Fill.{tabulate, length-tabulate, getD-tabulate, tabulate-same}
 use Rattle.gerg_file.specs.Counts.{sum}
-use Rattle.gerg_states.specs.States.{countOf}
+use Rattle.gerg_states.specs.declared.Run.{Run}
+use Rattle.gerg_states.specs.States.{countOf, countsBy}
 
 -- 1 for the number itself, 0 for any other
 abbrev met : ℕ → ℕ → ℕ
@@ -111,13 +112,9 @@ unfolding countOf
 count-same f g e first zero number = refl
 count-same f g e first (suc states) number = ap₂ (λ (x y : ℕ). x + met y number) (count-same f g e first states number) (e (first + states))
 
-tabulate-same : (c d : ℕ → ℕ) → ((k : ℕ) → c k ≡ d k) → (places : ℕ) → tabulate c places ≡ tabulate d places
-unfolding tabulate
-tabulate-same c d e zero = refl
-tabulate-same c d e (suc places) = ap₂ (λ (l : List ℕ) (x : ℕ). l ++ (x ∷ [])) (tabulate-same c d e places) (e places)
-
-pub counts-same : (f g : ℕ → ℕ) → ((n : ℕ) → f n ≡ g n) → (first states places : ℕ) → tabulate (countOf f first states) places ≡ tabulate (countOf g first states) places
-counts-same f g e first states places = tabulate-same (countOf f first states) (countOf g first states) (count-same f g e first states) places
+pub counts-same : (f g : ℕ → ℕ) → ((n : ℕ) → f n ≡ g n) → (run : Run) → countsBy f run ≡ countsBy g run
+unfolding countsBy
+counts-same f g e run = tabulate-same (countOf f (run .first) (run .states)) (countOf g (run .first) (run .states)) 38 (λ k h. count-same f g e (run .first) (run .states) k)
 
 -- ---- the array before the first state, and after one state more
 pub counts-begin : (f : ℕ → ℕ) (first places : ℕ) → replicate places 0 ≡ tabulate (countOf f first 0) places

@@ -11,7 +11,7 @@ use Rattle.generator.specs.declared.State.{State}
 use Rattle.generator.proofs.Laws.Range.{temperature-at, density-at}
 use Rattle.gerg_tables.specs.declared.Tables.{Tables}
 use Rattle.gerg_reducing.specs.declared.GergModel.{GergModel}
-use Rattle.gerg_coefficients.specs.Answer.{tablesOf}
+use Rattle.gerg_coefficients.specs.Answer.{answerOf, tablesOf}
 use Rattle.gerg.specs.Helmholtz.{normalRange, withinRange}
 use Rattle.gerg.specs.Evaluate.{evaluateOf}
 use Rattle.gerg.specs.EvaluateNumbers.{numberOf}
@@ -20,14 +20,17 @@ use Rattle.gerg.specs.declared.evaluate.EvaluateAnswer.{EvaluateAnswer}
 use Rattle.gerg.proofs.Laws.Numbers.{evaluate-at-most-12}
 use Rattle.gerg.proofs.Laws.Within.{Early, within-range, evaluate-late}
 use Rattle.gerg.proofs.Laws.Normal.{normal-low, normal-high}
-use Rattle.gerg_prepared.specs.Mixed.{mixedOf, memoryRows}
+use Rattle.numerics.specs.Fill.{tabulate}
+use Rattle.gerg_prepared.specs.Mixed.{mixedOf, afterRows, memoryRows}
+use Rattle.gerg_prepared.specs.declared.Mixed.{Mixed}
 use Rattle.gerg_prepared.specs.declared.Refusal.{Refusal}
 use Rattle.gerg_prepared.specs.declared.Refusal.the-variants.{Nothing, Refused}
-use Rattle.gerg_prepared.proofs.Laws.{after-nothing}
+use Rattle.gerg_prepared.proofs.Laws.{after-nothing, memory-nothing, same-mixed}
 use Rattle.gerg_prepared.proofs.Refused.{memory-refused}
-use Rattle.gerg_calls.proofs.Laws.After.{properties-number-is}
+use Rattle.gerg_answers.specs.PropertiesNumbers as ofProperties
+use Rattle.gerg_calls.proofs.Laws.After.{properties-number-is, same-properties}
 use Rattle.gerg_states.specs.declared.Run.{Run}
-use Rattle.gerg_states.specs.States.{seedRefusal, numberAt, countsOf, runRefusal, countsWritten}
+use Rattle.gerg_states.specs.States.{seedRefusal, numberAt, countOf, countsBy, countsOf, runRefusal, countsWritten}
 use Rattle.gerg_states.specs.Prepared.{numberFrom, countsFrom}
 use Rattle.gerg_states.proofs.Laws.Counts.{counts-same}
 
@@ -70,7 +73,7 @@ module _ (bytes list : List ℕ) (fractions : List Float) (sound : mixedOf bytes
   unfolding countsFrom countsOf
   prepared-counts run =
       counts-same (λ n. numberFrom (tablesOf bytes) (mixedOf bytes list fractions .model) (stateOf (run .seed) n)) (numberAt bytes list fractions (run .seed))
-      (λ n. sym (prepared-number (run .seed) n)) (run .first) (run .states) 38
+      (λ n. sym (prepared-number (run .seed) n)) run
 
 -- what rows 1 to 5 leave of the counts
 pub prepared-memory :
@@ -94,3 +97,20 @@ pub memory-after-seed :
     countsWritten bytes list fractions run out ≡ memoryRows (mixedOf bytes list fractions .refusal) out (countsOf bytes list fractions run)
 unfolding countsWritten
 memory-after-seed bytes list fractions run out e = ap (λ (x : Refusal). memoryRows x out (countsOf bytes list fractions run)) (after-seed bytes list fractions (run .seed) e)
+
+-- what an accepted call writes
+pub accepted-counts :
+    (bytes list : List ℕ) (fractions : List Float) (run : Run) (out : List ℕ) → runRefusal bytes list fractions (run .seed) ≡ Nothing →
+    countsWritten bytes list fractions run out ≡ tabulate (countOf (numberAt bytes list fractions (run .seed)) (run .first) (run .states)) 38
+unfolding countsWritten countsOf countsBy
+accepted-counts bytes list fractions run out e = memory-nothing (runRefusal bytes list fractions (run .seed)) out (countsOf bytes list fractions run) e
+
+-- ---- two files with one answer and the same tables
+module _ (a b list : List ℕ) (fractions : List Float) (seed : ℕ) (answer : answerOf a ≡ answerOf b) (same : tablesOf a ≡ tablesOf b) where
+  pub same-number : (n : ℕ) → numberAt a list fractions seed n ≡ numberAt b list fractions seed n
+  unfolding numberAt
+  same-number n = ap ofProperties.numberOf (same-properties a b list fractions (stateOf seed n .temperature) (stateOf seed n .density) answer same)
+
+  pub same-refusal : runRefusal a list fractions seed ≡ runRefusal b list fractions seed
+  unfolding runRefusal
+  same-refusal = ap (λ (m : Mixed). afterRows Refused (seedRefusal seed) (m .refusal)) (same-mixed a b list fractions answer same)

@@ -8,7 +8,7 @@ use Rattle.generator.specs.declared.DrawnState.{DrawnState}
 use Rattle.generator.specs.Generator.{afterOf, startOf, stateOf, drawnStateOf}
 use Rattle.generator.proofs.Laws.Alone.{drawn-state, drawn-generator}
 use Rattle.gerg_tables.specs.Tables.{tables}
-use Rattle.gerg_states.specs.States.{countOf}
+use Rattle.gerg_states.specs.States.{countOf, countsBy}
 use Rattle.gerg_states.specs.Prepared.{numberFrom, countsFrom}
 use Rattle.gerg_states.proofs.Laws.Counts.{counts-begin, counts-turn, counts-at-most, counts-done}
 use Rattle.gerg_states.proofs.counts.count_states.Statement.{statement}
@@ -77,7 +77,7 @@ loop-again c =
     )
 
 returns : tie.Need-returns Inv-loop μ-loop
-unfolding countsFrom
+unfolding countsFrom countsBy
 returns c =
     let t = c .before .before .loop in
     counts-done _ _ (t .i) _ 38 _ (t .inv .2) (let e : t .i ≡ c .before .before .before .before .before .before .args .run .states = omega arith in e)
