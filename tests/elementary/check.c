@@ -164,6 +164,43 @@ static void test_random(void) {
     expect(worst_ln <= 1, "ln at random arguments");
 }
 
+/* how far powf is from x to the power t relatively, by quad: its 113 bits leave 2^-105 of doubt at |t ln x| = 64 */
+static quad powf_error(double x, double t) {
+    quad exact = t == 0 ? 1 : expq((quad)t * logq(x));
+    return fabsq(elementary_powf(x, t) - exact) / exact;
+}
+
+/* the largest double t with t <= 64 and t |ln x| <= 64 */
+static double largest_exponent(double x) {
+    quad l = fabsq(logq(x));
+    double t = l <= 1 ? 64 : (double)(64 / l);
+    return t * l > 64 ? nextafter(t, 0) : t;
+}
+
+/* at the conditions of powf-within (one pair in four) and inside them, with subnormal x, x near 1 and x near e and 1 / e, where both conditions meet; and under those of powf-table */
+static void test_powf_random(void) {
+    quad worst = 0, table = 0;
+    double at[2] = { 0 }, table_at[2] = { 0 };
+    int ends = 0, subnormals = 0;
+    for (int i = 0; i < 200000; i++) {
+        double x = i % 5 == 0 ? uniform(0, 4) : i % 5 == 1 ? of_bits(1 + next() % UINT64_C(0x7fefffffffffffff)) : i % 5 == 2 ? of_bits(1 + next() % ((UINT64_C(1) << 52) - 1))
+                 : i % 5 == 3 ? 1 + ldexp(uniform(-1, 1), -(int)(next() % 53)) : exp(i % 2 ? 1 : -1) * uniform(0.99, 1.01);
+        if (!(x > 0)) x = least;
+        double most = largest_exponent(x), t = i % 8 == 0 ? most : i % 8 == 4 ? -most : i % 8 == 1 ? ldexp(uniform(-most, most), -(int)(next() % 1074)) : uniform(-most, most);
+        ends += fabs(t) == most; subnormals += x < 0x1p-1022;
+        quad s = powf_error(x, t);
+        if (!(s <= worst)) { worst = s; at[0] = x; at[1] = t; }
+        double tau = exp2(uniform(-8, 8)), power = i % 8 == 0 ? 32 : i % 8 == 4 ? -32 : uniform(-32, 32);
+        s = powf_error(tau, power);
+        if (!(s <= table)) { table = s; table_at[0] = tau; table_at[1] = power; }
+    }
+    printf("powf: 200000 random pairs, %d at |t| = 64 or |t ln x| = 64, %d with x subnormal, the worst 2^%.2f of the exact power (allowed 2^-36), at x = %a, t = %a\n", ends, subnormals, (double)log2q(worst), at[0], at[1]);
+    printf("powf: 200000 random pairs with x from 1/256 to 256 and |t| <= 32, the worst 2^%.2f (allowed 2^-36), at x = %a, t = %a\n", (double)log2q(table), table_at[0], table_at[1]);
+    expect(worst <= 0x1p-36Q, "powf at and inside its conditions");
+    expect(table <= 0x1p-36Q, "powf at exponents of tables");
+    expect(ends >= 50000 && subnormals >= 40000, "pairs at the conditions, and subnormal x");
+}
+
 /* ---- the bits at the special arguments, for a reader */
 static void table(void) {
     double up = nextafter(700, 701), under = nextafter(700, 0), over = nextafter(20, 21), inside = nextafter(20, 0);
@@ -229,6 +266,7 @@ int main(int argc, char **argv) {
     test_hyperbolic();
     test_sqrt_random();
     test_random();
+    test_powf_random();
     test_vectors(argc > 1 ? argv[1] : "vectors.txt");
     printf("%d passed, %d failed\n", passed, failed);
     return failed != 0;

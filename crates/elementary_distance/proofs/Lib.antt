@@ -25,7 +25,11 @@ pub mod LnDistance
 pub mod SqrtRoot
 pub mod SqrtUnits
 pub mod SqrtNearest
+-- ---- powf
+pub mod PowfDistance
 -- ---- the theorems
 pub mod Theorems
+-- ---- powf's theorem at work
+pub mod PowfExamples
 -- ---- what follows of signs and finite answers
 pub mod Signs

@@ -1,6 +1,6 @@
--- How far exp, ln and sqrt are from the exact values: three statements, which proofs/Theorems.antt proves at the figures below. `expOf`, `lnOf` and `sqrtOf` are what the functions' contracts
--- name (elementary: Exp, Ln, Sqrt). A double is a `Float` that binary64 holds (`fits`); `val x` is |x| as a fraction, `signed x` is x with its sign (numerics: Fraction, Exponential); and the
--- exact exponential and logarithm, from which `Within` and `LnNear` measure, are known by the fractions above and below them (numerics: Exponential).
+-- How far exp, ln, sqrt and powf are from the exact values: statements, which proofs/Theorems.antt proves at the figures below. `expOf`, `lnOf`, `sqrtOf` and `powfOf` are what the functions' contracts
+-- name (elementary: Exp, Ln, Sqrt, Power). A double is a `Float` that binary64 holds (`fits`); `val x` is |x| as a fraction, `signed x` is x with its sign (numerics: Fraction, Exponential); and the
+-- exact exponential, logarithm and power, from which `Within`, `LnNear` and `PowerWithin` measure, are known by the fractions above and below them (numerics: Exponential, Power).
 use mathlib.Core.Path.{_≡_}
 use mathlib.Core.Bool.{true}
 use Prim.Native.Nat.{ℕ, _+_, _-_, _*_}
@@ -9,12 +9,14 @@ use lib.Dec.{T}
 use lib.Ieee.{Float, binary64, lt, le, neg, fits}
 use lib.Ieee.Positive.{positive}
 use lib.Ieee.Scale.{finite}
-use Rattle.numerics.specs.Fraction.{Frac, _⊏_, _⊠_, part, val}
-use Rattle.numerics.specs.Exponential.{signed, Within, LnNear}
+use Rattle.numerics.specs.Fraction.{Frac, _⊑_, _⊏_, _⊠_, nat, part, val}
+use Rattle.numerics.specs.Exponential.{signed, size, Within, LnNear}
+use Rattle.numerics.specs.Power.{PowerWithin, ProductWithin}
 use Rattle.elementary_exp.specs.Exp.{expOf, most}
 use Rattle.elementary_ln.specs.Ln.{lnOf}
 use Rattle.numerics.specs.Double.{positiveFinite}
 use Rattle.elementary_sqrt.specs.Sqrt.{sqrtOf}
+use Rattle.elementary.specs.Power.{powfOf}
 
 -- ---- the figures that are proved, in bits
 abbrev pub expBits : ℕ
@@ -22,6 +24,9 @@ expBits = 48
 
 abbrev pub lnBits : ℕ
 lnBits = 48
+
+abbrev pub powfBits : ℕ
+powfBits = 36
 
 -- exp: y is finite, above zero, and within 2 ^ -k of e ^ x relatively
 pub record WithinOfExp (k : ℕ) (x y : Float) : Type 0 where
@@ -57,3 +62,17 @@ pub record NearestRoot (x y : Float) : Type 0 where
 -- "sqrt: the nearest double", for each positive finite double x
 abbrev pub SqrtDistance : Type 0
 SqrtDistance = (x : Float) → T (fits binary64 x) → positiveFinite x ≡ true → NearestRoot x (sqrtOf x)
+
+-- powf: y is a double, finite and above zero, and within 2 ^ -k of x ^ t relatively
+pub record WithinOfPower (k : ℕ) (x t y : Float) : Type 0 where
+  pub double : T (fits binary64 y)
+  pub pos : T (positive y)
+  pub near : PowerWithin (part k) (val x) (signed t) (val y)
+
+-- "For |t| ≤ 64 and |t × ln x| ≤ 64, x positive and finite, .. powf lies within 2^−36 of the exact power, relatively" (request 02): that with b and 2^−k; ln x is the exact logarithm, x may be subnormal
+abbrev pub PowerDistance : ℕ → ℕ → Type 0
+PowerDistance b k = (x t : Float) → T (fits binary64 x) → positiveFinite x ≡ true → T (finite t) → size (signed t) ⊑ nat b → ProductWithin (val x) (signed t) (nat b) → WithinOfPower k x t (powfOf x t)
+
+-- "tau raised to a table exponent": x from 1 / 256 to 256 and |t| ≤ 32, no logarithm in the conditions
+abbrev pub TablePowerDistance : ℕ → Type 0
+TablePowerDistance k = (x t : Float) → T (fits binary64 x) → positiveFinite x ≡ true → T (finite t) → nat 1 ⊑ val x ⊠ nat 256 → val x ⊑ nat 256 → size (signed t) ⊑ nat 32 → WithinOfPower k x t (powfOf x t)

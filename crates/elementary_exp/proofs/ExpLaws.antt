@@ -1,13 +1,16 @@
--- What exp's definition gives at single arguments and beyond its range. Assumes nothing.
+-- What exp's definition gives at single arguments and beyond its range, and that it is a double. Assumes nothing.
 use mathlib.Core.Path.{_≡_, refl}
-use mathlib.Core.Bool.{true, false}
+use mathlib.Core.Bool.{true, false, _&&_}
 use lib.Dec.{T}
-use lib.Ieee.{Float, nan, inf, lt, eq, ne, neg, ofBits}
+use lib.Ieee.{Float, nan, inf, binary64, lt, eq, ne, neg, ofBits, fits}
+use lib.Ieee.Bits.{ofBits-fits}
+use lib.Ieee.Fits.{mul-fits}
 use lib.Ieee.Positive.{positive}
 use Rattle.numerics.specs.Double.{+0, one}
+use Rattle.numerics.specs.Held.{pick-held}
 use Rattle.numerics.specs.Nan.{itself}
 use Rattle.numerics.specs.Order.{less-numbers, below-minus}
-use Rattle.elementary_exp.specs.Exp.{expOf, most}
+use Rattle.elementary_exp.specs.Exp.{expOf, most, least, withinOf}
 
 -- "exp(±0) = 1"
 pub exp-zero : expOf +0 ≡ one
@@ -42,3 +45,15 @@ exp-infinity = refl
 pub exp-minus-infinity : expOf (inf true) ≡ +0
 unfolding expOf lt ne eq neg ofBits
 exp-minus-infinity = refl
+
+-- whatever x is, the answer is a double
+within-double : (x : Float) → T (fits binary64 (withinOf x))
+unfolding withinOf
+within-double x = mul-fits binary64 _ _
+
+pub exp-double : (x : Float) → T (fits binary64 (expOf x))
+unfolding expOf fits
+exp-double x =
+    pick-held binary64 (ne x x) nan _ tt
+    (pick-held binary64 (lt most x) (inf false) _ tt
+    (pick-held binary64 (lt x (neg most)) +0 _ (ofBits-fits binary64 0) (pick-held binary64 (lt (neg least) x && lt x least) one (withinOf x) (ofBits-fits binary64 0x3ff0_0000_0000_0000) (within-double x))))

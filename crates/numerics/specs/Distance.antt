@@ -19,7 +19,7 @@ use Rattle.numerics.specs.Series.{sumTop, sumBot, S, Above, Below, S-arg
 use Rattle.numerics.specs.Law.{mono-⊠, zero-sum}
 use Rattle.numerics.specs.Exp.{LE, inv}
 use Rattle.numerics.specs.Exponential.{Signed, plus-of, minus-of, raised, lowered, Within, LnWithin}
-use Rattle.numerics.specs.ExpBoundSums.{Low, most-arg, least-arg}
+use Rattle.numerics.specs.ExpBoundSums.{_≼_, most-arg, least-arg}
 use Rattle.numerics.specs.ExpBounds.{positives, negatives, AtMost, AtLeast, at-most, at-least, least-most}
 
 -- ---- e ^ x
@@ -157,14 +157,14 @@ least-of-LE x u h v l p n k b A o m =
 abbrev pub difference : Frac → Frac → Signed
 difference s c = record { plus = s .top * c .bot; minus = c .top * s .bot; bot = s .bot * c .bot; good = mul-pos (s .good) (c .good) }
 
-pub most-quotient : (x : Signed) (s c P Q h : Frac) → Low x (difference s c) → Above s P → Below c Q → P ⊑ h ⊠ Q → AtMost x h
+pub most-quotient : (x : Signed) (s c P Q h : Frac) → x ≼ difference s c → Above s P → Below c Q → P ⊑ h ⊠ Q → AtMost x h
 most-quotient x s c P Q h l a b k =
     most-arg x (difference s c) h l
     (λ A o m. ⊑-trans (S m (positives (difference s c))) (S m s) (h ⊠ A) (S-arg m (positives (difference s c)) s (omega arith))
     (⊑-trans (S m s) P (h ⊠ A) (a m)
     (⊑-trans P (h ⊠ Q) (h ⊠ A) k (mono-⊠ h h Q A (⊑-refl h) (below-above c Q A b (above-arg c (negatives (difference s c)) A (omega arith) o))))))
 
-pub least-quotient : (x : Signed) (s c P Q l : Frac) → Low (difference s c) x → Below s P → Above c Q → l ⊠ Q ⊑ P → AtLeast x l
+pub least-quotient : (x : Signed) (s c P Q l : Frac) → difference s c ≼ x → Below s P → Above c Q → l ⊠ Q ⊑ P → AtLeast x l
 least-quotient x s c P Q f l a b k =
     least-arg (difference s c) x f l
     (λ A o m. ⊑-trans (f ⊠ S m (negatives (difference s c))) (f ⊠ Q) A

@@ -1,10 +1,9 @@
 -- Laws of `AtMost` and `AtLeast` in the exponent: monotony, e ^ (x + y) and e ^ (n x). Assumes nothing.
 use mathlib.Core.Path.{_≡_}
 use mathlib.Core.Logic.{_⊎_, inl, inr}
-use Prim.Native.Nat.{ℕ, zero, suc, _+_, _-_, _*_, _≤_, _<_}
-use native.Mathlib.Nat.{lt-of-lt-of-le, mul-pos, eq-zero-or-pos}
+use Prim.Native.Nat.{ℕ, zero, suc, _+_, _*_, _≤_, _<_}
+use native.Mathlib.Nat.{lt-of-lt-of-le, mul-pos, mul-le-mul-right, eq-zero-or-pos}
 use native.Mathlib.Omega.{arith}
-use lib.Dec as dec
 use Rattle.numerics.specs.Frac.{Frac, _⊑_, _⊞_, _⊠_, nat, ⊑-refl, ⊑-trans}
 use Rattle.numerics.specs.Series.{S, Above, S-arg, above-arg}
 use Rattle.numerics.specs.Law.{mono-⊠, law-lower, law-upper, above-mul, over, above-div, power}
@@ -13,11 +12,17 @@ use Rattle.numerics.specs.ExpBounds.{positives, negatives, AtMost, AtLea
 use Rattle.numerics.specs.Tail.{S-one}
 use Rattle.numerics.specs.ExpBoundLaws.{t, exp-zero}
 
--- ---- monotony: x ≤ y
-abbrev pub Low : Signed → Signed → Type 0
-Low x y = positives x ⊞ negatives y ⊑ positives y ⊞ negatives x
+-- ---- monotony
+infix 4 _≼_
+-- x ≤ y
+abbrev pub _≼_ : Signed → Signed → Type 0
+x ≼ y = x .plus * y .bot + y .minus * x .bot ≤ y .plus * x .bot + x .minus * y .bot
 
-pub most-arg : (x y : Signed) (h : Frac) → Low x y → AtMost y h → AtMost x h
+-- as an order of two sums
+sums-ordered : (x y : Signed) → x ≼ y → positives x ⊞ negatives y ⊑ positives y ⊞ negatives x
+sums-ordered x y h = omega (arith, mul-le-mul-right (x .bot * y .bot) h)
+
+pub most-arg : (x y : Signed) (h : Frac) → x ≼ y → AtMost y h → AtMost x h
 most-arg x y h l a A o m = cancel-exp (negatives y) (S m (positives x)) (h ⊠ A) each
   where
     each : (B : Frac) → Above (negatives y) B → (k : ℕ) → S m (positives x) ⊠ S k (negatives y) ⊑ h ⊠ A ⊠ B
@@ -26,10 +31,10 @@ most-arg x y h l a A o m = cancel-exp (negatives y) (S m (positives x)) (h ⊠ A
         let w = positives x ⊞ negatives y in
         let z = positives y ⊞ negatives x in
         ⊑-trans s (S (k + m) w) (h ⊠ A ⊠ B) (law-upper m k (positives x) (negatives y))
-        (⊑-trans (S (k + m) w) (S (k + m) z) (h ⊠ A ⊠ B) (S-arg (k + m) w z l)
+        (⊑-trans (S (k + m) w) (S (k + m) z) (h ⊠ A ⊠ B) (S-arg (k + m) w z (sums-ordered x y l))
         (⊑-trans (S (k + m) z) (h ⊠ B ⊠ A) (h ⊠ A ⊠ B) (above-mul (positives y) (negatives x) (h ⊠ B) A (a B b) o (k + m)) (omega arith)))
 
-pub least-arg : (x y : Signed) (l : Frac) → Low x y → AtLeast x l → AtLeast y l
+pub least-arg : (x y : Signed) (l : Frac) → x ≼ y → AtLeast x l → AtLeast y l
 least-arg x y f l a A o m = cancel-exp (negatives x) (f ⊠ S m (negatives y)) A each
   where
     turn : (f s t A B : Frac) (P : 0 < t .top) → f ⊠ s ⊑ over (A ⊠ B) t P → f ⊠ t ⊠ s ⊑ A ⊠ B
@@ -39,7 +44,7 @@ least-arg x y f l a A o m = cancel-exp (negatives x) (f ⊠ S m (negatives y)) A
     each B b k =
         let s = S m (negatives y) in
         let P : 0 < s .top = lt-of-lt-of-le (s .good) (S-one m (negatives y)) in
-        let w : Above (positives x ⊞ negatives y) (A ⊠ B) = above-arg (positives x ⊞ negatives y) (positives y ⊞ negatives x) (A ⊠ B) l (above-mul (positives y) (negatives x) A B o b) in
+        let w : Above (positives x ⊞ negatives y) (A ⊠ B) = above-arg (positives x ⊞ negatives y) (positives y ⊞ negatives x) (A ⊠ B) (sums-ordered x y l) (above-mul (positives y) (negatives x) A B o b) in
         turn f (S k (negatives x)) s A B P (a (over (A ⊠ B) s P) (above-div (positives x) (negatives y) (A ⊠ B) s P w (m, ⊑-refl s)) k)
 
 -- ---- e ^ (x + y)
@@ -112,7 +117,7 @@ module _ (x y : Signed) where
 abbrev pub times-of : ℕ → Signed → Signed
 times-of n x = record { plus = n * x .plus; minus = n * x .minus; bot = x .bot; good = x .good }
 
-pub next : (n : ℕ) (x : Signed) → Low (times-of (suc n) x) (sum-of x (times-of n x)) × Low (sum-of x (times-of n x)) (times-of (suc n) x)
+pub next : (n : ℕ) (x : Signed) → (times-of (suc n) x ≼ sum-of x (times-of n x)) × (sum-of x (times-of n x) ≼ times-of (suc n) x)
 next n x = (omega arith, omega arith)
 
 pub most-times : (n : ℕ) (x : Signed) (h : Frac) → AtMost x h → AtMost (times-of n x) (power n h)

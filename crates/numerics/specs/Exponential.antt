@@ -86,14 +86,21 @@ raised r d = record { plus = r .plus * d .bot + d .top * r .bot; minus = r .minu
 abbrev pub lowered : Signed → Frac → Signed
 lowered r d = record { plus = r .plus * d .bot; minus = r .minus * d .bot + d .top * r .bot; bot = r .bot * d .bot; good = mul-pos (r .good) (d .good) }
 
--- r is within d of ln x: nothing below e ^ (r - d) exceeds x, and nothing above e ^ (r + d) is less than x
-pub record LnWithin (d x : Frac) (r : Signed) : Type 0 where
-  pub low : (q : Frac) → BelowExp (lowered r d) q → q ⊑ x
-  pub high : (q : Frac) → AboveExp (raised r d) q → x ⊑ q
+-- l is at least ln x: nothing above e ^ l is less than x. l is at most ln x: nothing below e ^ l exceeds x
+abbrev pub AboveLn : Frac → Signed → Type 0
+AboveLn x l = (q : Frac) → AboveExp l q → x ⊑ q
 
--- c is at most |ln x|: nothing below e ^ c exceeds x, or nothing below e ^ c exceeds 1 / x
+abbrev pub BelowLn : Frac → Signed → Type 0
+BelowLn x l = (q : Frac) → BelowExp l q → q ⊑ x
+
+-- r is within d of ln x: r - d is at most ln x, and r + d at least
+pub record LnWithin (d x : Frac) (r : Signed) : Type 0 where
+  pub low : BelowLn x (lowered r d)
+  pub high : AboveLn x (raised r d)
+
+-- c is at most |ln x|: it is at most ln x, or nothing below e ^ c exceeds 1 / x
 abbrev pub LnReaches : Frac → Frac → Type 0
-LnReaches c x = ((q : Frac) → BelowExp (plus-of c) q → q ⊑ x) ⊎ ((q : Frac) → BelowExp (plus-of c) q → q ⊠ x ⊑ nat 1)
+LnReaches c x = BelowLn x (plus-of c) ⊎ ((q : Frac) → BelowExp (plus-of c) q → q ⊠ x ⊑ nat 1)
 
 -- r is within ε × max(1, |ln x|) of ln x: within a d that is at most ε, or at most ε c for a c that |ln x| reaches
 pub record LnNear (ε x : Frac) (r : Signed) : Type 0 where

@@ -7,7 +7,7 @@
 --   exp-above-times, exp-below-times   powers of a bound are bounds of e ^ (n x)
 -- They rest on this: where x is not 0 there is a smaller q below each q above e ^ x (`room-above`), and a larger above each q below it (`room-below`), since with two terms more the sum
 -- with the tail's bound falls and the sum less it grows. Assumes nothing.
-use mathlib.Core.Path.{_≡_, refl, ap}
+use mathlib.Core.Path.{_≡_, ap}
 use mathlib.Core.Logic.{_⊎_, inl, inr}
 use Prim.Native.Nat.{ℕ, zero, suc, _+_, _-_, _*_, _≤_, _<_}
 use native.Mathlib.Nat.{le-trans, lt-of-lt-of-le, mul-pos, mul-le-mul-right, le-of-mul-le-mul-right, mul-lt-mul-of-pos-right, pow-suc, add-sub-of-le, eq-zero-or-pos}
@@ -18,7 +18,7 @@ use Rattle.numerics.specs.Law.{mono-⊠, law-upper, power}
 use Rattle.numerics.specs.Exponential.{Signed, size, AboveExp, BelowExp}
 use Rattle.numerics.specs.ExpBounds.{positives, negatives, AtMost, AtLeast, at-most, at-least}
 use Rattle.numerics.specs.ExpBoundLaws.{t, above-of-most, below-of-least, least-some, exp-zero}
-use Rattle.numerics.specs.ExpBoundSums.{Low, most-arg, least-arg, sum-of, most-sum, least-sum, times-of, next}
+use Rattle.numerics.specs.ExpBoundSums.{_≼_, most-arg, least-arg, sum-of, most-sum, least-sum, times-of, next}
 use Rattle.numerics.specs.ExponentialRoom.{exp-above-pos, exp-above-more, exp-below-less, room-above, room-below, zero-of, one-below, one-above}
 
 -- ---- e ^ (x + y)
@@ -103,19 +103,19 @@ least-positive x h A o m =
     fits m p d b e = omega (arith, ap (λ (z : ℕ). z * (b * b)) e)
 
 -- against an argument that is 0
-low-zero : (x y : Signed) → Low x y → y .plus ≡ y .minus → x .plus ≤ x .minus
-low-zero x y l e = clear (x .plus) (x .minus) (x .bot) (y .plus) (y .minus) (y .bot) (x .good) (y .good) e l
+low-zero : (x y : Signed) → x ≼ y → y .plus ≡ y .minus → x .plus ≤ x .minus
+low-zero x y l e = clear (x .plus) (x .minus) (x .bot) (y .plus) (y .minus) (y .bot) (y .good) e l
   where
-    clear : (p m b r n c : ℕ) → 0 < b → 0 < c → r ≡ n → (p * c + n * b) * (c * b) ≤ (r * b + m * c) * (b * c) → p ≤ m
-    clear p m b r n c B C e h = le-of-mul-le-mul-right {k = c * (b * c)} (omega (arith, h, ap (λ (z : ℕ). z * (b * (b * c))) e)) (mul-pos C (mul-pos B C))
+    clear : (p m b r n c : ℕ) → 0 < c → r ≡ n → p * c + n * b ≤ r * b + m * c → p ≤ m
+    clear p m b r n c C e h = le-of-mul-le-mul-right {k = c} (omega (arith, h, ap (λ (z : ℕ). z * b) e)) C
 
-zero-low : (x y : Signed) → Low x y → x .plus ≡ x .minus → y .minus ≤ y .plus
-zero-low x y l e = clear (x .plus) (x .minus) (x .bot) (y .plus) (y .minus) (y .bot) (x .good) (y .good) e l
+zero-low : (x y : Signed) → x ≼ y → x .plus ≡ x .minus → y .minus ≤ y .plus
+zero-low x y l e = clear (x .plus) (x .minus) (x .bot) (y .plus) (y .minus) (y .bot) (x .good) e l
   where
-    clear : (p m b r n c : ℕ) → 0 < b → 0 < c → p ≡ m → (p * c + n * b) * (c * b) ≤ (r * b + m * c) * (b * c) → n ≤ r
-    clear p m b r n c B C e h = le-of-mul-le-mul-right {k = b * (b * c)} (omega (arith, h, ap (λ (z : ℕ). z * (c * (b * c))) e)) (mul-pos B (mul-pos B C))
+    clear : (p m b r n c : ℕ) → 0 < b → p ≡ m → p * c + n * b ≤ r * b + m * c → n ≤ r
+    clear p m b r n c B e h = le-of-mul-le-mul-right {k = b} (omega (arith, h, ap (λ (z : ℕ). z * c) e)) B
 
-pub exp-above-arg : (x y : Signed) (q : Frac) → Low x y → AboveExp y q → AboveExp x q
+pub exp-above-arg : (x y : Signed) (q : Frac) → x ≼ y → AboveExp y q → AboveExp x q
 exp-above-arg x y q l a = go (eq-zero-or-pos (size y .top)) (eq-zero-or-pos (size x .top))
   where
     go : (size y .top ≡ 0) ⊎ (0 < size y .top) → (size x .top ≡ 0) ⊎ (0 < size x .top) → AboveExp x q
@@ -131,7 +131,7 @@ exp-above-arg x y q l a = go (eq-zero-or-pos (size y .top)) (eq-zero-or-pos (siz
             let w : qb ≤ qt = omega arith in
             omega (arith, mul-le-mul-right b w, mul-pos (lt-of-lt-of-le Q w) d)
 
-pub exp-below-arg : (x y : Signed) (q : Frac) → Low x y → BelowExp x q → BelowExp y q
+pub exp-below-arg : (x y : Signed) (q : Frac) → x ≼ y → BelowExp x q → BelowExp y q
 exp-below-arg x y q l a = go (eq-zero-or-pos (size x .top)) (eq-zero-or-pos (size y .top))
   where
     go : (size x .top ≡ 0) ⊎ (0 < size x .top) → (size y .top ≡ 0) ⊎ (0 < size y .top) → BelowExp y q

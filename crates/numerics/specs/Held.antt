@@ -5,8 +5,9 @@ use native.Mathlib.Nat.{not-le-of-lt}
 use lib.Dec.{T, ltb, leb, eqb, ltb→lt, leb→le, nleb→lt}
 use lib.IntN.{ℤ}
 use lib.Pow.{pow-lt}
-use lib.Ieee.{fin, Format, prec, emax, low, up, down, fits}
+use lib.Ieee.{Float, fin, Format, prec, emax, low, up, down, fits}
 use lib.Ieee.Fits.{and-l, and-r}
+use Rattle.numerics.specs.Double.{pick}
 
 pub held : (f : Format) (s : Bool) (m : ℕ) (e : ℤ) → T (fits f (fin s (suc m) e)) → (suc m < 2 ^ prec f) × (down e ≤ 2 ^ low f) × (suc m * up e < 2 ^ suc (emax f) * down e)
 unfolding fits
@@ -28,3 +29,8 @@ pow-back i j h = go (leb i j) (leb→le i j) (nleb→lt i j)
     go : (b : Bool) → (T b → i ≤ j) → (T (not b) → j < i) → i ≤ j
     go true l g = l tt
     go false l g = absurd (not-le-of-lt (pow-lt (g tt)) h)
+
+-- of two values that a format holds it holds the one that a test picks
+pub pick-held : (f : Format) (b : Bool) (x y : Float) → T (fits f x) → T (fits f y) → T (fits f (pick b x y))
+pick-held f true x y p q = p
+pick-held f false x y p q = q

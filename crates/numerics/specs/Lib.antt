@@ -10,6 +10,8 @@ pub mod Middle
 pub mod Fraction
 -- the exact exponential and logarithm: `AboveExp`, `BelowExp`, `Within`, `LnWithin`, `LnNear`
 pub mod Exponential
+-- the exact power: `AbovePower`, `BelowPower`, `PowerWithin`
+pub mod Power
 -- ---- for code
 -- what a loop's proof asks of `Loop`
 pub mod Iterate
@@ -89,6 +91,23 @@ pub mod Equivalence
 pub mod Logarithm
 -- enclosures that antt computes; ln 2 to 110 places
 pub mod Eval
+-- ---- the exact power
+-- order among exponents; bounds of ln x; e ^ s for a small s
+pub mod ExponentOrder
+pub mod LnBounds
+pub mod SmallExponent
+-- the exponents that the power's definition has
+pub mod PowerExponents
+-- what the power means: its laws, by the sign of t, with neither exponential nor logarithm
+pub mod PowerLaws
+pub mod PowerSigns
+pub mod PowerAlgebra
+-- ways to show |t ln x| ≤ b
+pub mod PowerConditions
+-- a power by three steps, each with its distance; with doubles: the argument of the third, and the rounded product that it is
+pub mod PowerNear
+pub mod PowerArgument
+pub mod RoundedProduct
 -- ---- polynomials evaluated in doubles
 -- fractions over one denominator
 pub mod Common

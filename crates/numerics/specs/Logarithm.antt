@@ -15,7 +15,7 @@ use Rattle.numerics.specs.Series.{Above, Below}
 use Rattle.numerics.specs.Law.{mono-⊠}
 use Rattle.numerics.specs.Rel.{less}
 use Rattle.numerics.specs.Exp.{LE, inv}
-use Rattle.numerics.specs.Exponential.{Signed, plus-of, minus-of, raised, lowered, BelowExp, LnWithin, LnReaches, LnNear}
+use Rattle.numerics.specs.Exponential.{Signed, plus-of, minus-of, raised, lowered, BelowExp, AboveLn, LnWithin, LnReaches, LnNear}
 use Rattle.numerics.specs.ExpBounds.{at-least, least-most}
 use Rattle.numerics.specs.ExpBoundLaws.{split}
 use Rattle.numerics.specs.ExponentialLaws.{exp-above-arg, exp-below-arg}
@@ -28,11 +28,11 @@ ln-weaken d d' x r h w = record {
   high = λ q k. w .high q (exp-above-arg (raised r d) (raised r d') q (up (r .plus) (r .minus) (r .bot) (d .top) (d .bot) (d' .top) (d' .bot) h) k);
 }
   where
-    down : (p m b t s t' s' : ℕ) → t * s' ≤ t' * s → (p * s' * (b * s) + (m * s + t * b) * (b * s')) * (b * s * (b * s')) ≤ (p * s * (b * s') + (m * s' + t' * b) * (b * s)) * (b * s' * (b * s))
-    down p m b t s t' s' h = omega (arith, mul-le-mul-right (b * b * (b * s * (b * s'))) h)
+    down : (p m b t s t' s' : ℕ) → t * s' ≤ t' * s → p * s' * (b * s) + (m * s + t * b) * (b * s') ≤ p * s * (b * s') + (m * s' + t' * b) * (b * s)
+    down p m b t s t' s' h = omega (arith, mul-le-mul-right (b * b) h)
 
-    up : (p m b t s t' s' : ℕ) → t * s' ≤ t' * s → ((p * s + t * b) * (b * s') + m * s' * (b * s)) * (b * s' * (b * s)) ≤ ((p * s' + t' * b) * (b * s) + m * s * (b * s')) * (b * s * (b * s'))
-    up p m b t s t' s' h = omega (arith, mul-le-mul-right (b * b * (b * s * (b * s'))) h)
+    up : (p m b t s t' s' : ℕ) → t * s' ≤ t' * s → (p * s + t * b) * (b * s') + m * s' * (b * s) ≤ (p * s' + t' * b) * (b * s) + m * s * (b * s')
+    up p m b t s t' s' h = omega (arith, mul-le-mul-right (b * b) h)
 
 pub ln-near-weaken : (ε η x : Frac) (r : Signed) → ε ⊑ η → LnNear ε x r → LnNear η x r
 ln-near-weaken ε η x r h n = record { d = n .d; within = n .within; small = go (n .small) }
@@ -46,33 +46,28 @@ abbrev pub from-one : Frac → Frac
 from-one y = record { top = max (y .top) (y .bot); bot = y .bot; good = y .good }
 
 -- ---- |ln x| is at least y - d
-rest : (y d : Frac) → d ⊑ y → d .top * y .bot + (y .top * d .bot - d .top * y .bot) ≡ y .top * d .bot
+pub rest : (y d : Frac) → d ⊑ y → d .top * y .bot + (y .top * d .bot - d .top * y .bot) ≡ y .top * d .bot
 rest y d h = add-sub-of-le h
 
-reach-plus : (d x y : Frac) → d ⊑ y → LnWithin d x (plus-of y) → LnReaches (less y d) x
+pub reach-plus : (d x y : Frac) → d ⊑ y → LnWithin d x (plus-of y) → LnReaches (less y d) x
 reach-plus d x y h w = inl (λ q k. w .low q (exp-below-arg (plus-of (less y d)) (lowered (plus-of y) d) q (fits (y .top * d .bot) (d .top * y .bot) (y .top * d .bot - d .top * y .bot) (y .bot * d .bot) (d .bot) (rest y d h)) k))
   where
-    fits : (Y D r B e : ℕ) → D + r ≡ Y → (r * B + (0 * e + D) * B) * (B * B) ≤ (Y * B + 0 * B) * (B * B)
-    fits Y D r B e h = omega (arith, ap (λ (z : ℕ). z * (B * (B * B))) h)
+    fits : (Y D r B e : ℕ) → D + r ≡ Y → r * B + (0 * e + D) * B ≤ Y * B + 0 * B
+    fits Y D r B e h = omega (arith, ap (λ (z : ℕ). z * B) h)
 
-reach-minus : (d x y : Frac) → d ⊑ y → LnWithin d x (minus-of y) → LnReaches (less y d) x
-reach-minus d x y h w = inr each
+-- ln x ≤ -c, in the form of `LnReaches`
+pub reaches-minus : (c x : Frac) → AboveLn x (minus-of c) → LnReaches c x
+reaches-minus c x a = inr (λ q k. go q k (eq-zero-or-pos (q .top)))
   where
-    fits : (Y D r B e : ℕ) → D + r ≡ Y → ((0 * e + D) * B + r * B) * (B * B) ≤ (0 * B + Y * B) * (B * B)
-    fits Y D r B e h = omega (arith, ap (λ (z : ℕ). z * (B * (B * B))) h)
+    go : (q : Frac) → BelowExp (plus-of c) q → (q .top ≡ 0) ⊎ (0 < q .top) → q ⊠ x ⊑ nat 1
+    go q k (inl z) = rw z (omega arith)
+    go q k (inr Q) = let l : x ⊑ inv q Q = a (inv q Q) (above-neg c (inv q Q) (q .good) .1 (below-nonneg c q .0 k)) in omega (arith, l)
 
-    under : (q : Frac) (Q : 0 < q .top) → BelowExp (plus-of (less y d)) q → x ⊑ inv q Q
-    under q Q k =
-        w .high (inv q Q)
-        (exp-above-arg (raised (minus-of y) d) (minus-of (less y d)) (inv q Q) (fits (y .top * d .bot) (d .top * y .bot) (y .top * d .bot - d .top * y .bot) (y .bot * d .bot) (d .bot) (rest y d h))
-        (above-neg (less y d) (inv q Q) (q .good) .1 (below-nonneg (less y d) q .0 k)))
-
-    each : (q : Frac) → BelowExp (plus-of (less y d)) q → q ⊠ x ⊑ nat 1
-    each q k = go (eq-zero-or-pos (q .top))
-      where
-        go : (q .top ≡ 0) ⊎ (0 < q .top) → q ⊠ x ⊑ nat 1
-        go (inl z) = rw z (omega arith)
-        go (inr Q) = let l = under q Q k in omega (arith, l)
+pub reach-minus : (d x y : Frac) → d ⊑ y → LnWithin d x (minus-of y) → LnReaches (less y d) x
+reach-minus d x y h w = reaches-minus (less y d) x (λ q k. w .high q (exp-above-arg (raised (minus-of y) d) (minus-of (less y d)) q (fits (y .top * d .bot) (d .top * y .bot) (y .top * d .bot - d .top * y .bot) (y .bot * d .bot) (d .bot) (rest y d h)) k))
+  where
+    fits : (Y D r B e : ℕ) → D + r ≡ Y → (0 * e + D) * B + r * B ≤ 0 * B + Y * B
+    fits Y D r B e h = omega (arith, ap (λ (z : ℕ). z * B) h)
 
 -- ---- from a distance measured by y
 module _ (ε δ d x y : Frac) (few : δ ⊠ (nat 1 ⊞ ε) ⊑ ε) (one : δ ⊑ nat 1) (near : d ⊑ δ ⊠ from-one y) where
