@@ -201,6 +201,15 @@ static void test_powf_random(void) {
     expect(ends >= 50000 && subnormals >= 40000, "pairs at the conditions, and subnormal x");
 }
 
+/* neither condition can be left out: beyond |t| = 64 with |t ln x| = 60 powf is off by more than 2^-36, beyond |t ln x| = 64 with |t| = 64 it overflows */
+static void test_powf_beyond(void) {
+    double x = 1 - 4.5e-12, t = (double)(60 / -logq(x));
+    quad s = powf_error(x, t);
+    printf("powf: off by 2^%.2f at |t| = %.3g, |t ln x| = 60\n", (double)log2q(s), t);
+    expect(s > 0x1p-36Q, "|t| <= 64 is needed");
+    SAME(elementary_powf(0x1p80, 64), INFINITY);
+}
+
 /* ---- the bits at the special arguments, for a reader */
 static void table(void) {
     double up = nextafter(700, 701), under = nextafter(700, 0), over = nextafter(20, 21), inside = nextafter(20, 0);
@@ -267,6 +276,7 @@ int main(int argc, char **argv) {
     test_sqrt_random();
     test_random();
     test_powf_random();
+    test_powf_beyond();
     test_vectors(argc > 1 ? argv[1] : "vectors.txt");
     printf("%d passed, %d failed\n", passed, failed);
     return failed != 0;

@@ -22,12 +22,16 @@ powf-from-zero x l t e = rw e
 
 pub powf-zero : (x t : Float) → eq t +0 ≡ true → powfOf x t ≡ one
 unfolding powfOf
-powf-zero x t e = powf-from-zero x (lnOf x) t e
+powf-zero x t e = powf-from-zero x _ t e
 
--- "else exp(t × ln x) for x positive and finite"
+-- "else exp(t × ln x) for x positive and finite", also with the logarithm of x at hand
+pub powf-from-positive : (x l t : Float) → eq t +0 ≡ false → positiveFinite x ≡ true → powfFrom x l t ≡ expOf (mul binary64 t l)
+unfolding powfFrom
+powf-from-positive x l t e p = rw (e, p)
+
 pub powf-positive : (x t : Float) → eq t +0 ≡ false → positiveFinite x ≡ true → powfOf x t ≡ expOf (mul binary64 t (lnOf x))
-unfolding powfOf powfFrom
-powf-positive x t e p = rw (e, p)
+unfolding powfOf
+powf-positive x t e p = powf-from-positive x (lnOf x) t e p
 
 -- "all else gives NaN"
 pub powf-else : (x t : Float) → eq t +0 ≡ false → positiveFinite x ≡ false → powfOf x t ≡ nan

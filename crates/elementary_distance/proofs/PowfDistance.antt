@@ -12,7 +12,7 @@ use lib.Ieee.Bits.{ofBits-fits}
 use lib.Ieee.Fits.{and-l, down-pos}
 use lib.Ieee.Scale.{finite}
 use lib.Ieee.Positive.{num, den}
-use Rattle.numerics.specs.Double.{+0, one, _⊗_}
+use Rattle.numerics.specs.Double.{+0, one, _⊗_, positiveFinite}
 use Rattle.numerics.specs.Frac.{Frac, _⊑_, _⊞_, _⊠_, nat}
 use Rattle.numerics.specs.Fraction.{part, val}
 use Rattle.numerics.specs.Tests.{lt→le}
@@ -26,9 +26,9 @@ use Rattle.numerics.specs.PowerArgument.{magnitude-is, spread, product-few}
 use Rattle.numerics.specs.RoundedProduct.{Rounds, product-near}
 use Rattle.elementary_exp.specs.Exp.{expOf, most}
 use Rattle.elementary_ln.specs.Ln.{lnOf}
-use Rattle.elementary.specs.Power.{powfOf}
+use Rattle.elementary.specs.Power.{powfOf, powfFrom}
 use Rattle.elementary_exp.proofs.ExpLaws.{exp-double}
-use Rattle.elementary.proofs.Laws.{powf-zero, powf-positive}
+use Rattle.elementary.proofs.Laws.{powf-from-zero, powf-from-positive}
 use Rattle.elementary_distance.specs.Distances.{ExpDistance, LnDistance, PowerDistance, WithinOfLn, WithinOfPower}
 
 -- ---- t = ±0: the power is 1
@@ -110,9 +110,14 @@ module _ (b r p e k : ℕ) (w : Figures b r p e k) where
       total : (d : Frac) → num t * d .top * 2 ^ p ≤ b * (den t * d .bot) → magnitude (signed t) ⊠ d ⊞ part r ⊑ argument-error b r p
       total d s = rw (magnitude-is t .0, magnitude-is t .1) (sum (num t) (den t) (d .top) (d .bot) (2 ^ p) (2 ^ r) s)
 
-  pub powf-distance : LnDistance p → ExpDistance e → PowerDistance b k
-  powf-distance ln exp x t h g f few far = go (eq t +0) refl
+  -- with a logarithm of x at hand
+  from : (x l t : Float) → positiveFinite x ≡ true → T (finite t) → size (signed t) ⊑ nat b → ProductWithin (val x) (signed t) (nat b) → WithinOfLn p x l → ExpDistance e → WithinOfPower k x t (powfFrom x l t)
+  from x l t g f few far ln exp = go (eq t +0) refl
     where
-      go : (z : Bool) → eq t +0 ≡ z → WithinOfPower k x t (powfOf x t)
-      go true q = rw (powf-zero x t q) (one-at k x t q)
-      go false q = rw (powf-positive x t q g) (steps x t (lnOf x) f few far (ln x h (positive-of-tests x g)) exp)
+      go : (z : Bool) → eq t +0 ≡ z → WithinOfPower k x t (powfFrom x l t)
+      go true q = rw (powf-from-zero x l t q) (one-at k x t q)
+      go false q = rw (powf-from-positive x l t q g) (steps x t l f few far ln exp)
+
+  pub powf-distance : LnDistance p → ExpDistance e → PowerDistance b k
+  unfolding powfOf
+  powf-distance ln exp x t h g f few far = from x (lnOf x) t g f few far (ln x h (positive-of-tests x g)) exp
