@@ -58,13 +58,13 @@ enum gerg_refusal {
     GERG_BAD_REDUCING_VALUES = 5,     /* reducing values not finite and positive, or a gradient nonfinite */
     GERG_DENSITY_NONFINITE = 6,
     GERG_DENSITY_NOT_POSITIVE = 7,
-    GERG_OUT_OF_RANGE = 8,            /* T not in 200..450 or density not in 1e-3..30000 */
+    GERG_OUT_OF_RANGE = 8,            /* T not in 200..450 (extended range: 60..700) or density not in 1e-3..30000 */
     GERG_DERIVATIVE_NONFINITE = 9,
     GERG_UNSTABLE = 10,               /* stiffness dp/drho or cv not positive */
-    GERG_PRESSURE_OUT_OF_RANGE = 11,  /* pressure not in (0, 35e6] */
+    GERG_PRESSURE_OUT_OF_RANGE = 11,  /* pressure not in (0, 35e6] (extended range: (0, 70e6]) */
     GERG_PROPERTY_NONFINITE = 12,     /* a property, a fugacity coefficient or a density trial's pressure or stiffness nonfinite */
     GERG_BAD_SEARCH = 13,             /* bracket, limit or tolerance */
-    GERG_BAD_TARGET = 14,             /* target pressure nonfinite, not positive or above 35e6 */
+    GERG_BAD_TARGET = 14,             /* target pressure nonfinite, not positive or above 35e6 (extended range: 70e6) */
     GERG_TRIAL_UNSTABLE = 15,         /* a density trial's stiffness not positive */
     GERG_NOT_BRACKETED = 16,          /* the target is not between the pressures at the two ends */
     GERG_FINAL_CHECK = 17,            /* the state's pressure misses the tolerance that the trial's met */
@@ -80,7 +80,7 @@ enum gerg_refusal {
     GERG_ZERO_SEED = 27               /* states: the seed is 0 */
 };
 
-/* Places of `out`: gerg_properties writes the first 24, gerg_density all 30. */
+/* Places of `out`: gerg_properties writes the first 24, gerg_density all 30, in either range. */
 enum gerg_state {
     GERG_TEMPERATURE,       /* K */
     GERG_MOLAR_DENSITY,     /* mol/m3 */
@@ -159,6 +159,15 @@ uint64_t gerg_fugacity(const uint8_t *file, size_t file_len, const uint8_t *list
  * 1e-3 <= lo < hi <= 30000, limit >= 1 interior trials, 0 < tolerance <= 1e-7. Which root of several is found follows from the bracket. Value: 0. */
 uint64_t gerg_density(const uint8_t *file, size_t file_len, const uint8_t *list, size_t list_len, const double *fractions, size_t fractions_len,
                       double t, double target, double lo, double hi, uint64_t limit, double tolerance, double out[GERG_DENSITY_PLACES]);
+
+/* The three calls above in the extended range: numbers 8, 11 and 14 refuse a T not in 60..700 and pressures not in (0, 70e6]; densities keep their bounds.
+ * What a call accepts in the normal range has the same doubles in both. */
+uint64_t gerg_properties_extended(const uint8_t *file, size_t file_len, const uint8_t *list, size_t list_len, const double *fractions, size_t fractions_len,
+                                  double t, double rho, double out[GERG_STATE_PLACES]);
+uint64_t gerg_fugacity_extended(const uint8_t *file, size_t file_len, const uint8_t *list, size_t list_len, const double *fractions, size_t fractions_len,
+                                double t, double rho, double *out, size_t out_len);
+uint64_t gerg_density_extended(const uint8_t *file, size_t file_len, const uint8_t *list, size_t list_len, const double *fractions, size_t fractions_len,
+                               double t, double target, double lo, double hi, uint64_t limit, double tolerance, double out[GERG_DENSITY_PLACES]);
 
 /* Densities at which the pressure is p, outside the unstable region seen on a grid of densities, rising. Components 1 to 5 only,
  * T in 230..350, p in 1e5..1e7. Value: the number of roots; where `out` is too short it is refused with the doubles needed as the value.

@@ -1,11 +1,12 @@
 #!/usr/bin/env python3
 """Lays the workspace of the comparison out in a folder: oracle/crates, and upstream's text with the elementary calls substituted.
 
-    oracle/substitute.py FOLDER
+    oracle/substitute.py FOLDER [extended]
 
 gerg.rs and gerg_density.rs go over whole; of gerg_flash.rs the constant COMPONENTS, `validate` and `gerg_outer_roots`, of gerg_ph.rs
 `pure_saturation`, of saturation.rs the struct `PureSaturation`. In each, `.exp()` and its kin become the methods of the trait `Elementary`,
-one `use` line brings that trait, and what a cut part needs is imported anew. Nothing else changes: tests/oracle/test holds the difference.
+one `use` line brings that trait, and what a cut part needs is imported anew. With `extended` the ends of the range become those of EXTENDED.
+Nothing else changes: tests/oracle/test holds the difference.
 """
 import os
 import re
@@ -17,6 +18,14 @@ CALL = re.compile(r"\.(exp|ln|sqrt|sinh|cosh|tanh)\(\)|\.(powf|powi)\(")
 TRAIT = "use elementary::Elementary as _;\n"
 FLASH = "use thermo_models::{GERG_GAS_CONSTANT as R, GergFugacityState, GergModel};\nuse thermo_types::{CalculationError as Error, Pressure, Temperature};\n"
 PH = "use crate::{PureSaturation, gerg_outer_roots};\nuse thermo_models::GergModel;\nuse thermo_types::{CalculationError as Error, Pressure, Temperature};\n"
+
+# The ends of the extended range: file, the Rust's text, which stands there once, and what takes its place. Comments and the texts of errors keep
+# the normal ends, so that an error is known by the same text in both.
+EXTENDED = [
+    ("thermo-models/src/gerg.rs", "(200.0..=450.0)", "(60.0..=700.0)"),
+    ("thermo-models/src/gerg.rs", "(0.0..=35e6)", "(0.0..=70e6)"),
+    ("thermo-solvers/src/gerg_density.rs", "target > 35e6", "target > 70e6"),
+]
 
 
 def upstream(name):
@@ -56,17 +65,26 @@ def sources():
     }
 
 
+def widened(texts):
+    wide = dict(texts)
+    for name, normal, extended in EXTENDED:
+        if wide[name].count(normal) != 1:
+            raise ValueError(f"{name} has {normal} {wide[name].count(normal)} times and not once")
+        wide[name] = wide[name].replace(normal, extended)
+    return wide
+
+
 def main(words):
-    if len(words) != 1:
-        print("usage: substitute.py FOLDER", file=sys.stderr)
+    if not words or words[1:] not in ([], ["extended"]):
+        print("usage: substitute.py FOLDER [extended]", file=sys.stderr)
         return 2
-    folder = words[0]
+    folder, texts = words[0], widened(sources()) if words[1:] else sources()
     shutil.rmtree(os.path.join(folder, "crates"), ignore_errors=True)
     shutil.copytree(os.path.join(HERE, "crates"), os.path.join(folder, "crates"))
     shutil.copy(os.path.join(HERE, "Cargo.toml"), folder)
     os.makedirs(os.path.join(folder, "data"), exist_ok=True)
     shutil.copy(os.path.join(HERE, "..", "data", "gerg-2008.json"), os.path.join(folder, "data"))
-    for name, text in sources().items():
+    for name, text in texts.items():
         with open(os.path.join(folder, "crates", name), "w", encoding="utf-8") as out:
             out.write(text)
     return 0

@@ -9,6 +9,8 @@
 Units: K, Pa, mol/m3, kg/m3, J/mol, J/(mol K), m/s. A mixture maps component names (or numbers 1 to 21) to mole fractions, in the caller's order;
 pairs in a list do as well. A call that is refused raises Refusal. No call makes a claim about the phase.
 
+properties, fugacity and density take range="extended": 60 to 700 K and up to 70 MPa, where the normal range has 200 to 450 K and up to 35 MPa.
+
 The archive is made by `rt staticlib gerg_api`. ctypes needs a shared library: it is linked from the archive with `cc` at the first call, beside it.
 """
 import ctypes
@@ -33,13 +35,13 @@ CAUSES = {
     5: "reducing values of this composition not finite and positive, or a gradient of them not finite",
     6: "density not finite",
     7: "density not positive",
-    8: "temperature not in 200..450 K or density not in 1e-3..30000 mol/m³",
+    8: "temperature not in 200..450 K (extended range: 60..700 K) or density not in 1e-3..30000 mol/m³",
     9: "a derivative of the Helmholtz energy not finite",
     10: "locally unstable state: dp/drho or cv not positive",
-    11: "pressure of the state not in (0, 35 MPa]",
+    11: "pressure of the state not in (0, 35 MPa] (extended range: (0, 70 MPa])",
     12: "a property, a fugacity coefficient or a density trial not finite",
     13: "density search: bracket not rising within 1e-3..30000 mol/m³, limit 0, or tolerance not in (0, 1e-7]",
-    14: "target pressure not in (0, 35 MPa]",
+    14: "target pressure not in (0, 35 MPa] (extended range: (0, 70 MPa])",
     15: "density search met a density where dp/drho is not positive; choose another bracket",
     16: "target pressure not between the pressures at the bracket's ends",
     17: "the found state's pressure misses the tolerance",
@@ -144,6 +146,8 @@ _EXPORTS = {
     "gerg_state_at": [_N, _NUMBER, _DOUBLES],
     "gerg_count_refusals": _MIXTURE + [_N, _NUMBER, _NUMBER, ctypes.POINTER(_N)],
 }
+_RANGES = {"normal": "", "extended": "_extended"}  # what the name of an export ends with
+_EXPORTS.update({name + _RANGES["extended"]: _EXPORTS[name] for name in ("gerg_properties", "gerg_fugacity", "gerg_density")})
 _COUNT_PLACES = 38
 _MOST_ROOTS = 385  # one between two neighbours of the grid, which has 386 densities at most
 _loaded = {}
@@ -215,24 +219,31 @@ def check(file):
             raise
 
 
-def properties(file, mixture, t, rho):
+def _in(range, name):
+    """The export of that name in a range."""
+    if range not in _RANGES:
+        raise ValueError(f"{range!r} is no range; known: {', '.join(_RANGES)}")
+    return name + _RANGES[range]
+
+
+def properties(file, mixture, t, rho, range="normal"):
     """The State at a temperature and a molar density."""
     out = (ctypes.c_double * 24)()
-    _call("gerg_properties", file, mixture, t, rho, out)
+    _call(_in(range, "gerg_properties"), file, mixture, t, rho, out)
     return State(*out)
 
 
-def fugacity(file, mixture, t, rho):
+def fugacity(file, mixture, t, rho, range="normal"):
     """ln of each component's fugacity coefficient, in the mixture's order, zero fractions too."""
     out = (ctypes.c_double * len(mixture))()
-    _call("gerg_fugacity", file, mixture, t, rho, out, len(out))
+    _call(_in(range, "gerg_fugacity"), file, mixture, t, rho, out, len(out))
     return tuple(out)
 
 
-def density(file, mixture, t, target, lo, hi, limit=100, tolerance=1e-10):
+def density(file, mixture, t, target, lo, hi, limit=100, tolerance=1e-10, range="normal"):
     """The Density between lo and hi at which the pressure is the target. Which of several roots is found follows from the bracket."""
     out = (ctypes.c_double * 30)()
-    _call("gerg_density", file, mixture, t, target, lo, hi, limit, tolerance, out)
+    _call(_in(range, "gerg_density"), file, mixture, t, target, lo, hi, limit, tolerance, out)
     n = list(out)
     return Density(State(*n[:24]), n[24], int(n[25]), (n[26], n[27]), (n[28], n[29]))
 

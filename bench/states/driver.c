@@ -1,18 +1,17 @@
 /* Times gerg_count_refusals over 20,000 states beside a loop over gerg_properties at the same states, which are drawn before: states a second, the
    fastest of nine rounds in which the two take turns, and their ratio. Mixtures: the first components of the NIST AGA8 example, scaled to unit sum. */
+#include "example.h"
 #include "gerg.h"
 
 #include <stdio.h>
 #include <string.h>
 #include <time.h>
 
-enum { STATES = 20000, ROUNDS = 9, MOST = 21 };
+enum { STATES = 20000, ROUNDS = 9 };
 static const uint64_t SEED = 20080301;
-static const double EXAMPLE[MOST] = {0.77824, 0.02, 0.06, 0.08, 0.03, 0.0015, 0.003, 0.0005, 0.00165, 0.00215, 0.00088, 0.00024, 0.00015, 0.00009, 0.004, 0.005,
-    0.002, 0.0001, 0.0025, 0.007, 0.001};
-static uint8_t file[1 << 16], list[MOST];
+static uint8_t file[1 << 16];
 static size_t file_len;
-static double fractions[MOST], drawn[STATES][GERG_DRAWN_PLACES];
+static double drawn[STATES][GERG_DRAWN_PLACES];
 
 static double now(void)
 {
@@ -36,17 +35,6 @@ static double loop(size_t count, uint64_t counts[GERG_COUNT_PLACES])
     for (int n = 0; n < STATES; n++)
         counts[gerg_number(gerg_properties(file, file_len, list, count, fractions, count, drawn[n][GERG_TEMPERATURE], drawn[n][GERG_MOLAR_DENSITY], out))]++;
     return now() - start;
-}
-
-static void mix(size_t count)
-{
-    double sum = 0.0;
-    for (size_t k = 0; k < count; k++)
-        sum += EXAMPLE[k];
-    for (size_t k = 0; k < count; k++) {
-        list[k] = (uint8_t)(k + 1);
-        fractions[k] = EXAMPLE[k] / sum;
-    }
 }
 
 /* Status 0 where the two counted the same. */

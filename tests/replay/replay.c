@@ -1,16 +1,20 @@
 /* Replays a stored list of calls over the archive of gerg_api and compares number, value and every double's bits, lent memory included.
    usage: replay COEFFICIENTS < LIST. A line: its kind in brackets where the list has kinds, the call, its list, fractions, numbers, limit and places
-   lent, then ` = ` and the answer. A line that starts with # is passed over. Prints how many lines each kind has. */
+   lent, then ` = ` and the answer. A line that starts with # is passed over. Prints how many lines each kind has, and each feature that the head of a
+   list of the extended range counts. A line of the normal range that no end of it refuses is replayed in the extended range too. */
 #include <inttypes.h>
 #include <stdint.h>
 #include <stdio.h>
 #include <stdlib.h>
 #include <string.h>
 
-uint64_t gerg_properties(const uint8_t *, size_t, const uint8_t *, size_t, const double *, size_t, double, double, double *);
-uint64_t gerg_fugacity(const uint8_t *, size_t, const uint8_t *, size_t, const double *, size_t, double, double, double *, size_t);
-uint64_t gerg_density(const uint8_t *, size_t, const uint8_t *, size_t, const double *, size_t, double, double, double, double, uint64_t,
-                      double, double *);
+typedef uint64_t properties_call(const uint8_t *, size_t, const uint8_t *, size_t, const double *, size_t, double, double, double *);
+typedef uint64_t fugacity_call(const uint8_t *, size_t, const uint8_t *, size_t, const double *, size_t, double, double, double *, size_t);
+typedef uint64_t density_call(const uint8_t *, size_t, const uint8_t *, size_t, const double *, size_t, double, double, double, double,
+                              uint64_t, double, double *);
+properties_call gerg_properties, gerg_properties_extended;
+fugacity_call gerg_fugacity, gerg_fugacity_extended;
+density_call gerg_density, gerg_density_extended;
 uint64_t gerg_outer_roots(const uint8_t *, size_t, const uint8_t *, size_t, const double *, size_t, double, double, double *, size_t);
 uint64_t gerg_pure_saturation(const uint8_t *, size_t, const uint8_t *, size_t, const double *, size_t, double, double, double, uint64_t,
                               double *);
@@ -18,9 +22,16 @@ uint64_t gerg_pure_saturation(const uint8_t *, size_t, const uint8_t *, size_t, 
 enum { FILE_MOST = 1 << 16, PLACES = 1 << 16, KINDS = 32 };
 static const uint64_t LENT = 0x4142434400000000u;
 static uint8_t file[FILE_MOST], list[PLACES];
+static size_t file_len;
 static double fractions[PLACES], numbers[8], out[PLACES], expected[PLACES];
 static char kinds[KINDS][32];
-static unsigned long of_kind[KINDS];
+static unsigned long of_kind[KINDS], lines, passed, failed;
+
+/* What a line says beside the lists above. */
+struct line {
+    size_t listed, given, room;
+    uint64_t limit, refused, value;
+};
 
 static void fail(const char *what) {
     fprintf(stderr, "replay: %s\n", what);
@@ -57,15 +68,19 @@ static size_t doubles(double *into) {
     return n;
 }
 
-static uint64_t answer(const char *call, size_t file_len, size_t listed, size_t given, uint64_t limit, size_t room) {
-    const double *v = numbers;
-    if (!strcmp(call, "properties")) return gerg_properties(file, file_len, list, listed, fractions, given, v[0], v[1], out);
-    if (!strcmp(call, "fugacity")) return gerg_fugacity(file, file_len, list, listed, fractions, given, v[0], v[1], out, room);
+static uint64_t answer(const char *call, int extended, const struct line *l) {
+    const double *v = numbers, *x = fractions;
+    if (!strcmp(call, "properties"))
+        return (extended ? gerg_properties_extended : gerg_properties)(file, file_len, list, l->listed, x, l->given, v[0], v[1], out);
+    if (!strcmp(call, "fugacity"))
+        return (extended ? gerg_fugacity_extended : gerg_fugacity)(file, file_len, list, l->listed, x, l->given, v[0], v[1], out, l->room);
     if (!strcmp(call, "density"))
-        return gerg_density(file, file_len, list, listed, fractions, given, v[0], v[1], v[2], v[3], limit, v[4], out);
-    if (!strcmp(call, "roots")) return gerg_outer_roots(file, file_len, list, listed, fractions, given, v[0], v[1], out, room);
+        return (extended ? gerg_density_extended : gerg_density)(file, file_len, list, l->listed, x, l->given, v[0], v[1], v[2], v[3], l->limit,
+                                                                 v[4], out);
+    if (extended) fail("a call that the extended range does not have");
+    if (!strcmp(call, "roots")) return gerg_outer_roots(file, file_len, list, l->listed, x, l->given, v[0], v[1], out, l->room);
     if (!strcmp(call, "saturation"))
-        return gerg_pure_saturation(file, file_len, list, listed, fractions, given, v[0], v[1], v[2], limit, out);
+        return gerg_pure_saturation(file, file_len, list, l->listed, x, l->given, v[0], v[1], v[2], l->limit, out);
     fail("an unknown call");
     return 0;
 }
@@ -84,12 +99,29 @@ static int fits(const char *kind, uint64_t number, uint64_t value, uint64_t limi
     return !strcmp(kind, "middle-on-an-end") && number == 26 && value < limit;
 }
 
+/* Whether the extended range must give the same answer: it has the call, and no end of the normal range refused. */
+static int in_both(const char *call, uint64_t refused) {
+    int has = !strcmp(call, "properties") || !strcmp(call, "fugacity") || !strcmp(call, "density");
+    return has && refused != 8 && refused != 11 && refused != 14;
+}
+
 static void tally(const char *kind) {
     int k = 0;
     while (k < KINDS && of_kind[k] && strcmp(kinds[k], kind)) k++;
     if (k == KINDS) fail("too many kinds");
     strcpy(kinds[k], kind);
     of_kind[k]++;
+}
+
+/* The features of a line of the extended range. The answer to a fugacity has no pressure. */
+static void tally_features(const char *call, const struct line *l) {
+    int hydrogen = 0;
+    for (size_t k = 0; k < l->listed && k < l->given; k++) hydrogen = hydrogen || (list[k] == 15 && fractions[k] >= 0.5);
+    if (hydrogen) tally("half-hydrogen");
+    if (l->refused == 11) tally("row-11");
+    if (l->refused) return;
+    if (numbers[0] < 200.0 || numbers[0] > 450.0) tally("outside-200-to-450-K");
+    if (strcmp(call, "fugacity") && expected[3] > 35e6) tally("above-35-MPa");
 }
 
 /* The next line's kind (empty where it has none) and call; 0 at the end. */
@@ -109,37 +141,56 @@ static int next(char *kind, char *call) {
     return 0;
 }
 
-/* One line of the list: whether the archive answers it as stored. */
-static int same(const char *kind, const char *call, size_t file_len) {
-    size_t listed = count();
-    for (size_t k = 0; k < listed; k++) list[k] = (uint8_t)word("%" SCNu64);
-    size_t given = doubles(fractions);
+static struct line rest_of_line(void) {
+    struct line l = {.listed = count()};
+    for (size_t k = 0; k < l.listed; k++) list[k] = (uint8_t)word("%" SCNu64);
+    l.given = doubles(fractions);
     doubles(numbers);
-    uint64_t limit = word("%" SCNu64);
-    size_t room = count();
+    l.limit = word("%" SCNu64);
+    l.room = count();
     if (scanf(" = ") == EOF) fail("a line is cut short");
-    uint64_t refused = word("%" SCNu64), value = word("%" SCNu64);
-    for (size_t k = 0; k < room; k++) out[k] = expected[k] = number(LENT + k);
+    l.refused = word("%" SCNu64);
+    l.value = word("%" SCNu64);
+    for (size_t k = 0; k < l.room; k++) expected[k] = number(LENT + k);
     doubles(expected);
-    int right = answer(call, file_len, listed, given, limit, room) == refused * 0x100000000u + value;
-    for (size_t k = 0; k < room; k++) right = right && bits(out[k]) == bits(expected[k]);
+    return l;
+}
+
+/* Whether the archive answers a line as stored. */
+static int same(const char *call, int extended, const struct line *l) {
+    for (size_t k = 0; k < l->room; k++) out[k] = number(LENT + k);
+    int right = answer(call, extended, l) == l->refused * 0x100000000u + l->value;
+    for (size_t k = 0; k < l->room; k++) right = right && bits(out[k]) == bits(expected[k]);
+    return right;
+}
+
+static void note(int right, const char *call, const char *kind) {
+    passed += right;
+    failed += !right;
+    if (!right && failed <= 5) printf("FAILED call %lu, %s %s\n", lines, call, kind);
+}
+
+/* A line whose kind and call are read. */
+static void replay(const char *kind, char *call) {
+    char *suffix = strstr(call, "-extended");
+    if (suffix) *suffix = 0;
+    struct line l = rest_of_line();
+    lines++;
     if (kind[0]) tally(kind);
-    return right && (!kind[0] || fits(kind, refused, value, limit));
+    if (suffix) tally_features(call, &l);
+    note(same(call, suffix != NULL, &l) && (!kind[0] || fits(kind, l.refused, l.value, l.limit)), call, suffix ? "extended" : kind);
+    if (suffix || !in_both(call, l.refused)) return;
+    tally("in-both-ranges");
+    note(same(call, 1, &l), call, "in the extended range too");
 }
 
 int main(int argc, char **argv) {
     FILE *source = argc == 2 ? fopen(argv[1], "rb") : NULL;
     if (!source) fail("usage: replay COEFFICIENTS < LIST");
-    size_t file_len = fread(file, 1, FILE_MOST, source);
+    file_len = fread(file, 1, FILE_MOST, source);
     fclose(source);
     char kind[32], call[32];
-    unsigned long passed = 0, failed = 0;
-    while (next(kind, call)) {
-        int right = same(kind, call, file_len);
-        passed += right;
-        failed += !right;
-        if (!right && failed <= 5) printf("FAILED call %lu, %s %s\n", passed + failed, call, kind);
-    }
+    while (next(kind, call)) replay(kind, call);
     for (int k = 0; k < KINDS && of_kind[k]; k++) printf("kind %s %lu\n", kinds[k], of_kind[k]);
     printf("%lu passed, %lu failed\n", passed, failed);
     return failed != 0;

@@ -39,3 +39,7 @@ helmholtzOf t m range temperature rho =
 -- 200 K, 450 K, 35e6 Pa
 unfoldable pub normalRange : Range
 normalRange = record { «temperature_low» = bits 0x4069_0000_0000_0000; «temperature_high» = bits 0x407c_2000_0000_0000; «pressure_high» = bits 0x4180_b076_0000_0000 }
+
+-- "60 to 700 K and up to 70 MPa": 60 K, 700 K, 70e6 Pa
+unfoldable pub extendedRange : Range
+extendedRange = record { «temperature_low» = bits 0x404e_0000_0000_0000; «temperature_high» = bits 0x4085_e000_0000_0000; «pressure_high» = bits 0x4190_b076_0000_0000 }

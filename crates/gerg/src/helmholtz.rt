@@ -58,6 +58,17 @@ pub fn normal_range() -> Range
     }
 }
 
+// 60 to 700 K, pressures to 70 MPa.
+pub fn extended_range() -> Range
+    ensures { λ r. ⌜ r ≡ is.extendedRange ⌝ }
+{
+    Range {
+        temperature_low: 60.0,
+        temperature_high: 700.0,
+        pressure_high: 70.0e6,
+    }
+}
+
 // Rows 6 to 9 at one density of an isotherm.
 pub fn helmholtz_at<'a>(
     doubles: &'a [f64; 4086],

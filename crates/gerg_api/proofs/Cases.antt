@@ -87,7 +87,7 @@ bracket-case :
     (bytes list : List ℕ) (fractions : List Float) (temperature target x : Float) → Prepared bytes list fractions →
     (ofDensity.numberOf (densityCall bytes list fractions temperature target (emptyAt x)) ≡ 13) × (ofDensity.valueOf (densityCall bytes list fractions temperature target (emptyAt x)) ≡ 0)
 bracket-case bytes list fractions temperature target x n =
-    let e = density-answer bytes list fractions temperature target (emptyAt x) (nothing-refused bytes list fractions n) in
+    let e = density-answer bytes list fractions normalRange temperature target (emptyAt x) (nothing-refused bytes list fractions n) in
     let c = case-13 (tablesOf bytes) (mixedOf bytes list fractions .model) normalRange temperature target x in
     (ap ofDensity.numberOf e ∙ c .0, ap ofDensity.valueOf e ∙ c .1)
 
@@ -95,7 +95,7 @@ file-case :
     (list : List ℕ) (fractions : List Float) (temperature rho : Float) →
     (ofProperties.numberOf (propertiesOf [] list fractions temperature rho) ≡ 1) × (ofProperties.valueOf (propertiesOf [] list fractions temperature rho) ≡ 0)
 file-case list fractions temperature rho =
-    let e = properties-rows [] list fractions (one (ofRows.numberOf (mixedOf [] list fractions .refusal)) (ap ofRows.numberOf rows ∙ empty-file-number)) temperature rho in
+    let e = properties-rows [] list fractions (one (ofRows.numberOf (mixedOf [] list fractions .refusal)) (ap ofRows.numberOf rows ∙ empty-file-number)) normalRange temperature rho in
     (ap ofProperties.numberOf e ∙ ap ofRows.numberOf rows ∙ empty-file-number, ap ofProperties.valueOf e ∙ ap ofRows.valueOf rows ∙ empty-file-value)
   where
     one : (n : ℕ) → n ≡ 1 → n ≡ 0 → ⊥

@@ -1,11 +1,10 @@
 // The public calls for C: number × 2^32 + value, 0 when accepted; a slice is a pointer and a length.
+use crate::options;
 use gerg_calls::density;
 use gerg_calls::fugacity;
 use gerg_calls::properties;
 use gerg_equilibrium::roots;
 use gerg_equilibrium::saturation;
-use gerg_search::Bracket;
-use gerg_search::Options;
 use gerg_states::Run;
 use gerg_states::counts;
 use gerg_states::state;
@@ -64,13 +63,7 @@ pub extern "C" fn gerg_density(
     ensures answer { λ r. ⌜ r ≡ answers.densityCode (is.densityCall (now (file .entry)) (now (list .entry)) (now (fractions .entry)) t target (is.optionsOf lo hi limit tolerance)) ⌝ }
     ensures memory { λ r. ⌜ now (out .exit) ≡ answers.densityWritten (is.densityCall (now (file .entry)) (now (list .entry)) (now (fractions .entry)) t target (is.optionsOf lo hi limit tolerance)) (now (out .entry)) ⌝ }
 {
-    let bracket = Bracket { lo, hi };
-    let limit = limit as usize;
-    let o = Options {
-        bracket,
-        limit,
-        tolerance,
-    };
+    let o = options(lo, hi, limit, tolerance);
     let answer = density::density(file, list, fractions, t, target, o);
     gerg_answers::put_density(answer, out);
     gerg_answers::density_code(answer)

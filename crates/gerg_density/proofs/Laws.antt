@@ -4,3 +4,4 @@ pub mod Verdict
 pub mod Turn
 pub mod Numbers
 pub mod Cases
+pub mod Inside

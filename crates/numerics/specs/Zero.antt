@@ -12,6 +12,7 @@ use lib.Ieee.Fits.{up-pos, down-pos}
 use lib.Ieee.Scale.{finite}
 use lib.Ieee.Positive.{num, den, positive, first-pos, cross→le}
 use Rattle.numerics.specs.Double.{+0}
+use Rattle.numerics.specs.Order.{not-greater}
 use Rattle.numerics.specs.Sign.{of-positive}
 use Rattle.numerics.specs.Tests.{clash, or-left}
 
@@ -84,6 +85,23 @@ not-at-most-zero t p = subst (λ (z : Float). le t z ≡ false) (sym zero-is) (o
     each m e h =
         let g : 0 < m * up e = mul-pos h (up-pos e) in
         rw (le-ltb (m * up e * 1) (0 * 1 * down e) (omega arith), ne-eqb (m * up e * 1) (0 * 1 * down e) (λ q. omega arith))
+
+-- ---- above zero and at most a double above zero
+at-most-finite : (x high : Float) → T (positive high) → T (lt +0 x) → T (le x high) → finite x ≡ true
+unfolding lt le ofBits
+at-most-finite nan high p a h = absurd a
+at-most-finite (inf true) high p a h = absurd a
+at-most-finite (inf false) nan p a h = absurd p
+at-most-finite (inf false) (inf t) p a h = absurd p
+at-most-finite (inf false) (fin t n d) p a h = absurd h
+at-most-finite (fin s m e) high p a h = refl
+
+pub positive-below : (x high : Float) → T (positive high) → T (lt +0 x) → T (le x high) → T (positive x)
+positive-below x high p a h = above-zero x (at-most-finite x high p a h) (go (le x +0) refl)
+  where
+    go : (b : Bool) → le x +0 ≡ b → b ≡ false
+    go true e = clash a (not-greater x +0 e)
+    go false e = refl
 
 -- ---- a number that is neither below zero nor above it is at most any double above zero
 level-fin : (t f : Float) → T (positive t) → isNan f ≡ false → lt (fin false 0 (pos 0)) f ≡ false → lt f (fin false 0 (pos 0)) ≡ false → le f t ≡ false → ⊥

@@ -1,6 +1,6 @@
 //! The words of the command line.
 use crate::Fault;
-use gerg::{Component, Mixture};
+use gerg::{Component, Mixture, Range};
 use std::collections::BTreeMap;
 
 pub const USAGE: &str = "\
@@ -21,6 +21,7 @@ GERG-2008 gas properties. Units: K, Pa, mol/m³.
 
   MIX is name=fraction,name=fraction,..  as methane=0.9,ethane=0.1; the fractions add up to 1 within 1e-9
   S is a whole number of 64 bits but 0, decimal or hexadecimal as 0x1F
+  --range R     properties, fugacity, density and curve: normal (200 to 450 K, up to 35 MPa; the default) or extended (60 to 700 K, up to 70 MPa)
   --jobs N      states: parts of the run that are worked out at a time (default: one a processor)
   --file FILE   coefficient file (default: data/gerg-2008.bin, here or in the repository that this program was built in)
   --json        the answer as JSON
@@ -121,6 +122,14 @@ impl Arguments {
             (Some(_), None) => Err(self.fault(format!("{first} is given without {second}"))),
             (None, Some(_)) => Err(self.fault(format!("{second} is given without {first}"))),
         }
+    }
+
+    pub fn range(&self) -> Result<Range, Fault> {
+        let Some(word) = self.text("--range") else {
+            return Ok(Range::default());
+        };
+        let unknown = || self.fault(format!("--range: '{word}' is no range; known: {}", Range::ALL.map(Range::name).join(" ")));
+        Range::ALL.into_iter().find(|each| each.name() == word).ok_or_else(unknown)
     }
 
     pub fn mixture(&self) -> Result<Mixture, Fault> {

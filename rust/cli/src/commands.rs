@@ -19,12 +19,12 @@ pub fn run(words: &[String]) -> Result<String, Fault> {
         "--help" | "-h" | "help" => Ok(USAGE.to_string()),
         "components" => Ok(components()),
         "check" => check(&parse(&[])?),
-        "properties" => properties(&parse(&["--mix", "--t", "--rho", "--p", "--all"])?),
-        "fugacity" => fugacity(&parse(&["--mix", "--t", "--rho", "--p"])?),
-        "density" => density(&parse(&["--mix", "--t", "--p", "--lo", "--hi", "--limit", "--tolerance", "--all"])?),
+        "properties" => properties(&parse(&["--mix", "--t", "--rho", "--p", "--range", "--all"])?),
+        "fugacity" => fugacity(&parse(&["--mix", "--t", "--rho", "--p", "--range"])?),
+        "density" => density(&parse(&["--mix", "--t", "--p", "--lo", "--hi", "--limit", "--tolerance", "--range", "--all"])?),
         "roots" => roots(&parse(&["--mix", "--t", "--p"])?),
         "saturation" => saturation(&parse(&["--mix", "--p", "--lo", "--hi", "--limit"])?),
-        "curve" => curve::run(&Arguments::parse(command, rest, &["--mix", "--t", "--from", "--to", "--points", "--out", "--file"])?),
+        "curve" => curve::run(&Arguments::parse(command, rest, &["--mix", "--t", "--from", "--to", "--points", "--range", "--out", "--file"])?),
         "state" => states::one(&Arguments::parse(command, rest, &["--seed", "--n", "--json", "--bits"])?),
         "states" => states::run(&Arguments::parse(command, rest, &["--mix", "--seed", "--states", "--first", "--jobs", "--file", "--json"])?),
         other => Err(Fault::usage(format!("'{other}' is no command; see gerg --help"))),
@@ -116,12 +116,12 @@ fn state_at(arguments: &Arguments, input: &Input) -> Result<(State, String, Opti
     match (arguments.number("--rho")?, arguments.number("--p")?) {
         (Some(rho), None) => {
             let asked = format!("T = {} K, density {} mol/m³", exact(t), exact(rho));
-            let state = gerg::properties(&input.file, &input.mixture, t, rho).map_err(|r| input.refused(r, &asked, arguments))?;
+            let state = gerg::properties_in(&input.file, &input.mixture, input.range, t, rho).map_err(|r| input.refused(r, &asked, arguments))?;
             Ok((state, asked, None))
         }
         (None, Some(p)) => {
             let asked = format!("T = {} K, p = {} Pa", exact(t), exact(p));
-            let found = lightest::density(&input.file, &input.mixture, t, p, LIMIT, TOLERANCE).map_err(|r| input.refused(r, &asked, arguments))?;
+            let found = lightest::density(input, t, p, LIMIT, TOLERANCE).map_err(|r| input.refused(r, &asked, arguments))?;
             let how = format!("{}, limit {LIMIT}, tolerance {TOLERANCE:e}", upward(found.first_bracket));
             Ok((found.state, asked, Some(how)))
         }
@@ -145,7 +145,8 @@ fn coefficient_rows(mixture: &Mixture, ln_phi: &[f64]) -> Vec<Row> {
 fn fugacity(arguments: &Arguments) -> Result<String, Fault> {
     let input = Input::read(arguments)?;
     let (state, asked, how) = state_at(arguments, &input)?;
-    let ln_phi = gerg::fugacity(&input.file, &input.mixture, state.temperature, state.molar_density).map_err(|r| input.refused(r, &asked, arguments))?;
+    let ln_phi = gerg::fugacity_in(&input.file, &input.mixture, input.range, state.temperature, state.molar_density);
+    let ln_phi = ln_phi.map_err(|r| input.refused(r, &asked, arguments))?;
     let mut above = input.heading(asked);
     above.extend(how.map(|how| heading("how", "density", how)));
     let mut rows = vec![row("molar_density", "molar density", state.molar_density, "mol/m³")];
@@ -160,8 +161,8 @@ fn density(arguments: &Arguments) -> Result<String, Fault> {
     let asked = format!("T = {} K, target p = {} Pa", exact(t), exact(p));
     let bracket = arguments.pair("--lo", "--hi")?;
     let found = match bracket {
-        Some([lo, hi]) => gerg::density(&input.file, &input.mixture, t, p, Search { lo, hi, limit, tolerance }),
-        None => lightest::density(&input.file, &input.mixture, t, p, limit, tolerance),
+        Some([lo, hi]) => gerg::density_in(&input.file, &input.mixture, input.range, t, p, Search { lo, hi, limit, tolerance }),
+        None => lightest::density(&input, t, p, limit, tolerance),
     };
     let found = found.map_err(|r| input.refused(r, &asked, arguments))?;
     let default = |name| if arguments.text(name).is_some() { "" } else { " (the default)" };

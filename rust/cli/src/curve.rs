@@ -25,10 +25,10 @@ fn point(input: &Input, t: f64, p: f64) -> Point {
     if by_root {
         let roots = gerg::outer_roots(file, mixture, t, p);
         let count = roots.as_ref().map_or(0, Vec::len);
-        let state = roots.and_then(|roots| gerg::properties(file, mixture, t, roots[0].molar_density));
+        let state = roots.and_then(|roots| gerg::properties_in(file, mixture, input.range, t, roots[0].molar_density));
         return Point { p, roots: Some(count), state };
     }
-    let state = lightest::density(file, mixture, t, p, lightest::LIMIT, lightest::TOLERANCE).map(|found| found.state);
+    let state = lightest::density(input, t, p, lightest::LIMIT, lightest::TOLERANCE).map(|found| found.state);
     Point { p, roots: None, state }
 }
 
@@ -77,21 +77,22 @@ fn stretches(points: &[Point], value: fn(&State) -> f64) -> Vec<Vec<(f64, f64)>>
     all
 }
 
-fn svg(input: &Input, t: f64, range: [f64; 2], points: &[Point]) -> String {
+fn svg(input: &Input, t: f64, ends: [f64; 2], points: &[Point]) -> String {
     let lines = |value| stretches(points, value);
     let panels = [
         Panel { label: "density, kg/m³", color: "#1f5fa8", lines: lines(|s| s.mass_density) },
         Panel { label: "speed of sound, m/s", color: "#b5451c", lines: lines(|s| s.speed_of_sound) },
     ];
     let title = format!("GERG-2008 at {} K", exact(t));
-    picture(&title, &format!("{}; coefficients {}", input.described(), input.path), range.map(|p| p / 1e6), &panels)
+    let small = [Some(input.described()), Some(format!("coefficients {}", input.path)), input.other_range()];
+    picture(&title, &small.into_iter().flatten().collect::<Vec<_>>().join("; "), ends.map(|p| p / 1e6), &panels)
 }
 
-fn range(arguments: &Arguments) -> Result<([f64; 2], usize), Fault> {
+fn ends(arguments: &Arguments, highest: f64) -> Result<([f64; 2], usize), Fault> {
     let [from, to] = [arguments.number("--from")?.unwrap_or(1e5), arguments.number("--to")?.unwrap_or(1e7)];
     let count = arguments.whole::<u64>("--points", Some(100))?;
-    if !(from > 0.0 && from < to && to <= 35e6) {
-        return Err(arguments.fault(format!("--from {} --to {}: pressures must rise within (0, 35e6]", exact(from), exact(to))));
+    if !(from > 0.0 && from < to && to <= highest) {
+        return Err(arguments.fault(format!("--from {} --to {}: pressures must rise within (0, {}e6]", exact(from), exact(to), highest / 1e6)));
     }
     if !(2..=100_000).contains(&count) {
         return Err(arguments.fault(format!("--points: {count} is not in 2..100000")));
@@ -109,7 +110,9 @@ fn summary(input: &Input, isotherm: String, points: &[Point]) -> String {
     let several = points.iter().filter(|point| point.roots.is_some_and(|count| count > 1)).count();
     let refusals: Vec<String> = points.iter().filter_map(|point| point.state.err()).map(|refusal| refusal.number().to_string()).collect();
     let how = format!("by the lightest exterior root at {by_root} points, by the search upward at {}", points.len() - by_root);
-    let mut lines = vec![("coefficients", input.coefficients()), ("mixture", input.described()), ("isotherm", isotherm), ("density", how)];
+    let mut lines = vec![("coefficients", input.coefficients()), ("mixture", input.described()), ("isotherm", isotherm)];
+    lines.extend(input.range_line().map(|line| (line.name, line.text)));
+    lines.push(("density", how));
     if several > 0 {
         lines.push(("roots", format!("several at {several} points: the lightest need not be the stable state")));
     }
@@ -124,7 +127,7 @@ fn summary(input: &Input, isotherm: String, points: &[Point]) -> String {
 pub fn run(arguments: &Arguments) -> Result<String, Fault> {
     let input = Input::read(arguments)?;
     let t = arguments.needed("--t")?;
-    let ([from, to], count) = range(arguments)?;
+    let ([from, to], count) = ends(arguments, input.range.highest_pressure())?;
     let last = count - 1;
     let pressure = |k: usize| if k == last { to } else { from + (to - from) * (k as f64 / last as f64) };
     let pressures: Vec<f64> = (0..count).map(pressure).collect();

@@ -1,18 +1,19 @@
-//! What a call starts from: the coefficient file and the mixture; and how a refusal of it is said.
+//! What a call starts from: the coefficient file, the mixture and the range; and how a refusal of it is said.
 use crate::Fault;
 use crate::arguments::Arguments;
 use crate::format::{exact, quoted};
 use crate::report::{Heading, heading};
-use gerg::{Cause, Mixture, Refusal};
+use gerg::{Cause, Mixture, Range, Refusal};
 use std::io::Read;
 use std::path::Path;
 
-/// The coefficient file of a call, and the mixture.
+/// The coefficient file of a call, the mixture, and the range, which is the normal one for a command that has no --range.
 pub struct Input {
     pub path: String,
     pub given: bool,
     pub file: Vec<u8>,
     pub mixture: Mixture,
+    pub range: Range,
 }
 
 /// One byte more than the longest file that can be accepted, so that a longer one is refused for its bytes over.
@@ -35,10 +36,10 @@ fn default_path() -> String {
 impl Input {
     pub fn read(arguments: &Arguments) -> Result<Input, Fault> {
         arguments.no_free_words()?;
-        let mixture = arguments.mixture()?;
+        let (mixture, range) = (arguments.mixture()?, arguments.range()?);
         let given = arguments.text("--file").is_some();
         let path = arguments.text("--file").map_or_else(default_path, String::from);
-        Ok(Input { file: read(&path)?, given, path, mixture })
+        Ok(Input { file: read(&path)?, given, path, mixture, range })
     }
 
     pub fn described(&self) -> String {
@@ -50,14 +51,28 @@ impl Input {
         format!("{} ({} bytes{})", self.path, self.file.len(), if self.given { "" } else { "; the default" })
     }
 
+    /// Nothing for the normal range, which is meant where none is said.
+    pub fn other_range(&self) -> Option<String> {
+        (self.range != Range::default()).then(|| format!("{} range", self.range.name()))
+    }
+
+    /// Nothing for the normal range here too.
+    pub fn range_line(&self) -> Option<Heading> {
+        self.other_range()?;
+        let (name, [low, high], most) = (self.range.name(), self.range.temperatures(), self.range.highest_pressure() / 1e6);
+        Some(Heading { key: "range", name: "range", text: format!("{name}: {low} to {high} K, up to {most} MPa"), json: quoted(name) })
+    }
+
     pub fn heading(&self, asked: String) -> Vec<Heading> {
         let parts = self.mixture.components().iter().zip(self.mixture.fractions());
         let parts: Vec<String> = parts.map(|(component, x)| format!("{}:{}", quoted(component.name()), exact(*x))).collect();
-        vec![
+        let mut lines = vec![
             Heading { key: "file", name: "coefficients", text: self.coefficients(), json: quoted(&self.path) },
             Heading { key: "mixture", name: "mixture", text: self.described(), json: format!("{{{}}}", parts.join(",")) },
             heading("asked", "state", asked),
-        ]
+        ];
+        lines.extend(self.range_line());
+        lines
     }
 
     /// The refusal in one line that says what and where, and as JSON.
@@ -69,7 +84,7 @@ impl Input {
             Cause::BadList | Cause::BadFractions if part < listed.len() => format!("part {} of --mix, {}={}", part + 1, listed[part], exact(x[part])),
             Cause::BadFractions => format!("they add up to {}", exact(x.iter().fold(0.0, |sum, v| sum + v))),
             Cause::TrialUnstable => format!("{asked}; see --lo, --hi and gerg roots"),
-            _ => [Some(asked.to_string()), refusal.detail()].into_iter().flatten().collect::<Vec<_>>().join("; "),
+            _ => [Some(asked.to_string()), self.other_range(), refusal.detail()].into_iter().flatten().collect::<Vec<_>>().join("; "),
         };
         refusal_fault(refusal, &place, arguments)
     }

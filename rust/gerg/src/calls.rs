@@ -1,5 +1,5 @@
 //! The calls and their answers.
-use crate::{Cause, Component, Mixture, Refusal, exports};
+use crate::{Cause, Component, Mixture, Range, Refusal, density_in, exports, fugacity_in, properties_in};
 
 /// Derivatives of the Helmholtz energy over RT: residual (`ar`) by delta (d) and tau (t), ideal (`a0`) by tau,
 /// each times that power of delta and tau.
@@ -53,7 +53,7 @@ pub struct State {
 }
 
 impl State {
-    fn from_places(n: &[f64]) -> State {
+    pub(crate) fn from_places(n: &[f64]) -> State {
         let derivatives =
             Derivatives { ar: n[15], ar_d: n[16], ar_dd: n[17], ar_t: n[18], ar_tt: n[19], ar_dt: n[20], a0: n[21], a0_t: n[22], a0_tt: n[23] };
         State {
@@ -88,14 +88,14 @@ impl State {
 pub fn check(file: &[u8]) -> Result<(), Refusal> {
     // An empty list is refused as the first cause after those of the file.
     let nothing = Mixture::new([]);
-    match Refusal::answered(exports::properties(file, &nothing, 300.0, 1.0, &mut [0.0; 24])) {
+    match Refusal::answered(exports::properties(file, &nothing, Range::Normal, 300.0, 1.0, &mut [0.0; 24])) {
         Err(refusal) if refusal.cause == Cause::BadList => Ok(()),
         Err(refusal) => Err(refusal),
         Ok(_) => unreachable!("an empty list is refused"),
     }
 }
 
-/// Properties at a temperature (K) and a molar density (mol/m³).
+/// Properties at a temperature (K) and a molar density (mol/m³), in the normal range.
 ///
 /// ```
 /// use gerg::{Component::Methane, Mixture};
@@ -104,12 +104,10 @@ pub fn check(file: &[u8]) -> Result<(), Refusal> {
 /// assert!((state.pressure - 99_600.0).abs() < 100.0);
 /// ```
 pub fn properties(file: &[u8], mixture: &Mixture, t: f64, rho: f64) -> Result<State, Refusal> {
-    let mut out = [0.0; 24];
-    Refusal::answered(exports::properties(file, mixture, t, rho, &mut out))?;
-    Ok(State::from_places(&out))
+    properties_in(file, mixture, Range::default(), t, rho)
 }
 
-/// ln of each listed component's fugacity coefficient, in list order, zero fractions too.
+/// ln of each listed component's fugacity coefficient, in list order, zero fractions too; in the normal range.
 ///
 /// ```
 /// use gerg::{Component::*, Mixture};
@@ -118,9 +116,7 @@ pub fn properties(file: &[u8], mixture: &Mixture, t: f64, rho: f64) -> Result<St
 /// assert!(ln_phi[1] < ln_phi[0] && ln_phi[0] < 0.0);
 /// ```
 pub fn fugacity(file: &[u8], mixture: &Mixture, t: f64, rho: f64) -> Result<Vec<f64>, Refusal> {
-    let mut out = vec![0.0; mixture.components().len()];
-    Refusal::answered(exports::fugacity(file, mixture, t, rho, &mut out))?;
-    Ok(out)
+    fugacity_in(file, mixture, Range::default(), t, rho)
 }
 
 /// Where and how long a density is searched.
@@ -154,7 +150,7 @@ pub struct Density {
     pub last_bracket: [f64; 2],
 }
 
-/// The density in a bracket at which the pressure is the target (Pa). Which of several roots is found follows from the bracket.
+/// The density in a bracket at which the pressure is the target (Pa), in the normal range. Which of several roots is found follows from the bracket.
 ///
 /// ```
 /// use gerg::{Component::Methane, Mixture, Search};
@@ -163,10 +159,7 @@ pub struct Density {
 /// assert!((found.state.pressure / 1e6 - 1.0).abs() <= 1e-10 && found.trials <= 100);
 /// ```
 pub fn density(file: &[u8], mixture: &Mixture, t: f64, target: f64, search: Search) -> Result<Density, Refusal> {
-    let mut n = [0.0; 30];
-    Refusal::answered(exports::density(file, mixture, t, target, &search, &mut n))?;
-    let state = State::from_places(&n);
-    Ok(Density { state, residual: n[24], trials: n[25] as u64, first_bracket: [n[26], n[27]], last_bracket: [n[28], n[29]] })
+    density_in(file, mixture, Range::default(), t, target, search)
 }
 
 /// A density on an exterior branch of the isotherm at which the pressure is the one asked.

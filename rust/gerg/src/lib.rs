@@ -3,7 +3,8 @@
 //! Units: K, Pa, mol/m³, kg/m³, J/mol, J/(mol K), m/s.
 //!
 //! Each call but [`state_at`] starts from the bytes of a coefficient file and a mixture, and either answers or says by a [`Refusal`] why not.
-//! No call makes a claim about the phase: a state is what the equation gives at that temperature and density.
+//! No call makes a claim about the phase: a state is what the equation gives at that temperature and density. A call that names no [`Range`] is of the
+//! normal one.
 //!
 //! ```
 //! use gerg::{Component::*, Mixture, Search};
@@ -14,11 +15,12 @@
 //!
 //! let refused = gerg::properties(&file, &gas, 199.0, 1000.0).unwrap_err();
 //! assert_eq!(refused.number(), 8);
-//! assert_eq!(refused.to_string(), "refused, number 8: temperature not in 200..450 K or density not in 1e-3..30000 mol/m³");
+//! assert_eq!(refused.to_string(), "refused, number 8: temperature not in 200..450 K (extended range: 60..700 K) or density not in 1e-3..30000 mol/m³");
 //! ```
 mod calls;
 mod component;
 mod exports;
+mod range;
 mod refusal;
 mod states;
 
@@ -26,6 +28,7 @@ pub use calls::{
     Density, Derivatives, Root, Saturation, Search, State, check, density, fugacity, outer_roots, properties, pure_saturation,
 };
 pub use component::{Component, Mixture, UnknownComponent};
+pub use range::{Range, density_in, fugacity_in, properties_in};
 pub use refusal::{Cause, Refusal};
 pub use states::{Counts, DrawnState, count_refusals, state_at};
 

@@ -1,5 +1,5 @@
 //! The calls on the repository's coefficient file.
-use gerg::{Cause, Component, Component::*, Mixture, Refusal, Search};
+use gerg::{Cause, Component, Component::*, Mixture, Range, Refusal, Search};
 
 fn file() -> Vec<u8> {
     std::fs::read(gerg::DEFAULT_FILE).expect("data/gerg-2008.bin")
@@ -24,7 +24,7 @@ fn causes_have_the_numbers_1_to_27() {
     assert_eq!(numbers, (1..=27).collect::<Vec<u32>>());
 }
 
-/// data/README.md: the NIST AGA8 example, 50 MPa, is beyond the range; near it, at 30 MPa, the state is accepted.
+/// data/README.md: the NIST AGA8 example, 50 MPa, is in the extended range alone; near it, at 30 MPa, the state is accepted in the normal one.
 #[test]
 fn all_21_components() {
     let fractions = [
@@ -33,6 +33,8 @@ fn all_21_components() {
     ];
     let gas = Mixture::new(Component::ALL.into_iter().zip(fractions));
     assert_eq!(gerg::properties(&file(), &gas, 400.0, 12798.28626082062), Err(Refusal { cause: Cause::PressureOutOfRange, value: 0 }));
+    let published = gerg::properties_in(&file(), &gas, Range::Extended, 400.0, 12798.28626082062).unwrap();
+    assert!((published.pressure / 50e6 - 1.0).abs() < 1e-13);
     let found = gerg::density(&file(), &gas, 400.0, 30e6, Search::between(5000.0, 12000.0)).unwrap();
     assert!((found.state.mass_density / found.state.molar_density - 0.0205427445016).abs() < 1e-15);
     let ln_phi = gerg::fugacity(&file(), &gas, 400.0, found.state.molar_density).unwrap();

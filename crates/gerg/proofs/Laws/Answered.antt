@@ -51,7 +51,7 @@ not-zero p t e = go (lt +0 p) t
     go true t = tt
     go false t = absurd (level-with t)
 
-pressure-in : (high p : Float) → pressureOut high p ≡ false → T (lt +0 p) × T (le p high)
+pub pressure-in : (high p : Float) → pressureOut high p ≡ false → T (lt +0 p) × T (le p high)
 unfolding pressureOut
 pressure-in high p e =
     let parts = or-false (not (le +0 p && le p high)) (eq p +0) e in

@@ -9,6 +9,7 @@ use Rattle.numerics.specs.Fill.{filled}
 use Rattle.gerg_tables.specs.declared.Tables.{Tables}
 use Rattle.gerg_coefficients.specs.Answer.{tablesOf}
 use Rattle.gerg.specs.Helmholtz.{normalRange}
+use Rattle.gerg.specs.declared.Range.{Range}
 use Rattle.gerg.specs.declared.GergState.{GergState}
 use Rattle.gerg_fugacity.specs.Fugacity.{lnPhis}
 use Rattle.gerg_density.specs.DensityNumbers as ofDensity
@@ -27,7 +28,7 @@ use Rattle.gerg_answers.specs.PropertiesNumbers as ofProperties
 use Rattle.gerg_answers.specs.Answers.{numbersOf, densityNumbers, saturationNumbers, propertiesWritten, densityWritten, saturationWritten}
 use Rattle.gerg_answers.specs.declared.PropertiesAnswer.the-variants as answer
 use Rattle.gerg_answers.proofs.Laws as export
-use Rattle.gerg_calls.specs.Calls.{evaluatedOf, propertiesOf, fugacityAnswer, fugacityWritten, densityCall}
+use Rattle.gerg_calls.specs.Calls.{evaluatedOf, propertiesIn, fugacityIn, fugacityWrittenIn, densityIn}
 use Rattle.gerg_equilibrium.specs.Equilibrium.{rootsCall, rootsWritten, saturationCall}
 use Rattle.gerg_prepared.proofs.Refused.{components-listed}
 use Rattle.gerg_calls.proofs.Laws.After as laws
@@ -42,11 +43,11 @@ module _ (bytes list : List ℕ) (fractions : List Float) where
   abbrev m : Mixed
   m = mixedOf bytes list fractions
 
-  pub fugacity-leaves : (temperature rho : Float) (out : List Float) →
-      (ofProperties.numberOf (fugacityAnswer bytes list fractions temperature rho out) ≡ 0 → ⊥) → fugacityWritten bytes list fractions temperature rho out ≡ out
-  fugacity-leaves temperature rho out =
-      fugacity-through bytes list fractions (λ a l. (ofProperties.numberOf a ≡ 0 → ⊥) → l ≡ out) temperature rho out (λ b h. refl) (λ e h. refl)
-      (λ e. laws.fugacity-memory t m temperature rho out (evaluatedOf t m temperature rho))
+  pub fugacity-leaves : (range : Range) (temperature rho : Float) (out : List Float) →
+      (ofProperties.numberOf (fugacityIn bytes list fractions range temperature rho out) ≡ 0 → ⊥) → fugacityWrittenIn bytes list fractions range temperature rho out ≡ out
+  fugacity-leaves range temperature rho out =
+      fugacity-through bytes list fractions (λ a l. (ofProperties.numberOf a ≡ 0 → ⊥) → l ≡ out) range temperature rho out (λ b h. refl) (λ e h. refl)
+      (λ e. laws.fugacity-memory t m range temperature rho out (evaluatedOf t m range temperature rho))
 
   pub roots-leaves : (temperature pressure : Float) (out : List Float) →
       (ofRoots.numberOf (rootsCall bytes list fractions temperature pressure out) ≡ 0 → ⊥) → rootsWritten bytes list fractions temperature pressure out ≡ out
@@ -54,13 +55,13 @@ module _ (bytes list : List ℕ) (fractions : List Float) where
       roots-through bytes list fractions (λ a l. (ofRoots.numberOf a ≡ 0 → ⊥) → l ≡ out) temperature pressure out (λ b h. refl)
       (λ e. scan.refusal-leaves-memory t (m .model) (gradientRows m) normalRange temperature pressure out)
 
-  pub properties-leaves : (temperature rho : Float) (out : List Float) →
-      (ofProperties.numberOf (propertiesOf bytes list fractions temperature rho) ≡ 0 → ⊥) → propertiesWritten (propertiesOf bytes list fractions temperature rho) out ≡ out
-  properties-leaves temperature rho out = export.properties-leaves (propertiesOf bytes list fractions temperature rho) out
+  pub properties-leaves : (range : Range) (temperature rho : Float) (out : List Float) →
+      (ofProperties.numberOf (propertiesIn bytes list fractions range temperature rho) ≡ 0 → ⊥) → propertiesWritten (propertiesIn bytes list fractions range temperature rho) out ≡ out
+  properties-leaves range temperature rho out = export.properties-leaves (propertiesIn bytes list fractions range temperature rho) out
 
-  pub density-leaves : (temperature target : Float) (o : Options) (out : List Float) →
-      (ofDensity.numberOf (densityCall bytes list fractions temperature target o) ≡ 0 → ⊥) → densityWritten (densityCall bytes list fractions temperature target o) out ≡ out
-  density-leaves temperature target o out = export.density-leaves (densityCall bytes list fractions temperature target o) out
+  pub density-leaves : (range : Range) (temperature target : Float) (o : Options) (out : List Float) →
+      (ofDensity.numberOf (densityIn bytes list fractions range temperature target o) ≡ 0 → ⊥) → densityWritten (densityIn bytes list fractions range temperature target o) out ≡ out
+  density-leaves range temperature target o out = export.density-leaves (densityIn bytes list fractions range temperature target o) out
 
   pub saturation-leaves : (pressure lo hi : Float) (limit : ℕ) (out : List Float) →
       (ofSaturation.numberOf (saturationCall bytes list fractions pressure lo hi limit) ≡ 0 → ⊥) → saturationWritten (saturationCall bytes list fractions pressure lo hi limit) out ≡ out
@@ -72,13 +73,13 @@ module _ (bytes list : List ℕ) (fractions : List Float) where
   not-enclosed-leaves pressure lo hi limit out = export.not-enclosed-leaves (saturationCall bytes list fractions pressure lo hi limit) out
 
   -- ---- an accepted call of a C export writes its numbers
-  pub properties-writes : (temperature rho : Float) (out : List Float) (s : GergState) →
-      propertiesOf bytes list fractions temperature rho ≡ answer.State s → propertiesWritten (propertiesOf bytes list fractions temperature rho) out ≡ numbersOf s
-  properties-writes temperature rho out s = export.properties-writes (propertiesOf bytes list fractions temperature rho) s out
+  pub properties-writes : (range : Range) (temperature rho : Float) (out : List Float) (s : GergState) →
+      propertiesIn bytes list fractions range temperature rho ≡ answer.State s → propertiesWritten (propertiesIn bytes list fractions range temperature rho) out ≡ numbersOf s
+  properties-writes range temperature rho out s = export.properties-writes (propertiesIn bytes list fractions range temperature rho) s out
 
-  pub density-writes : (temperature target : Float) (o : Options) (out : List Float) (r : DensityResult) →
-      densityCall bytes list fractions temperature target o ≡ density.Accepted r → densityWritten (densityCall bytes list fractions temperature target o) out ≡ densityNumbers r
-  density-writes temperature target o out r = export.density-writes (densityCall bytes list fractions temperature target o) r out
+  pub density-writes : (range : Range) (temperature target : Float) (o : Options) (out : List Float) (r : DensityResult) →
+      densityIn bytes list fractions range temperature target o ≡ density.Accepted r → densityWritten (densityIn bytes list fractions range temperature target o) out ≡ densityNumbers r
+  density-writes range temperature target o out r = export.density-writes (densityIn bytes list fractions range temperature target o) r out
 
   pub saturation-writes : (pressure lo hi : Float) (limit : ℕ) (out : List Float) (s : PureSaturation) →
       saturationCall bytes list fractions pressure lo hi limit ≡ saturation.Found s → saturationWritten (saturationCall bytes list fractions pressure lo hi limit) out ≡ saturationNumbers s
@@ -86,12 +87,12 @@ module _ (bytes list : List ℕ) (fractions : List Float) where
 
   -- an accepted `fugacity` writes ln φ of each listed component, "One per listed component in list order"; "doubles of a lent answer past those needed stay as lent"
   pub fugacity-writes :
-      (temperature rho : Float) (out : List Float) (s : GergState) → fugacityAnswer bytes list fractions temperature rho out ≡ answer.State s →
-      fugacityWritten bytes list fractions temperature rho out ≡ filled (λ k. getD (lnPhis t (m .model) (gradientRows m) s temperature rho) k nan) (length list) out
-  fugacity-writes temperature rho out s =
-      fugacity-through bytes list fractions (λ a l. a ≡ answer.State s → l ≡ filled (λ k. getD (lnPhis t (m .model) (gradientRows m) s temperature rho) k nan) (length list) out) temperature rho out
+      (range : Range) (temperature rho : Float) (out : List Float) (s : GergState) → fugacityIn bytes list fractions range temperature rho out ≡ answer.State s →
+      fugacityWrittenIn bytes list fractions range temperature rho out ≡ filled (λ k. getD (lnPhis t (m .model) (gradientRows m) s temperature rho) k nan) (length list) out
+  fugacity-writes range temperature rho out s =
+      fugacity-through bytes list fractions (λ a l. a ≡ answer.State s → l ≡ filled (λ k. getD (lnPhis t (m .model) (gradientRows m) s temperature rho) k nan) (length list) out) range temperature rho out
       (λ b h. absurd (never (numberOf (m .refusal)) (valueOf (m .refusal)) h)) (λ e h. absurd (never 24 (m .model .components) h))
-      (λ e h. laws.fugacity-written t m temperature rho out (evaluatedOf t m temperature rho) s h
+      (λ e h. laws.fugacity-written t m range temperature rho out (evaluatedOf t m range temperature rho) s h
       ∙ ap (λ (n : ℕ). filled (λ k. getD (lnPhis t (m .model) (gradientRows m) s temperature rho) k nan) n out) (components-listed bytes list fractions e))
     where
       never : (n v : ℕ) → answer.Refused n v ≡ answer.State s → ⊥

@@ -10,6 +10,7 @@ use lib.ListN.{length}
 use Rattle.gerg_tables.specs.declared.Tables.{Tables}
 use Rattle.gerg_coefficients.specs.Answer.{tablesOf}
 use Rattle.gerg.specs.Helmholtz.{normalRange}
+use Rattle.gerg.specs.declared.Range.{Range}
 use Rattle.gerg.specs.declared.GergState.{GergState}
 use Rattle.gerg_search.specs.States.{Doubles}
 use Rattle.gerg_density.specs.DensityNumbers as ofDensity
@@ -36,7 +37,7 @@ use Rattle.gerg_answers.specs.PropertiesNumbers as ofProperties
 use Rattle.gerg_answers.specs.Answers.{propertiesCode, densityCode, rootsCode, saturationCode, rootsReported, saturationReported}
 use Rattle.gerg_answers.specs.declared.PropertiesAnswer.the-variants as answer
 use Rattle.gerg_answers.proofs.Laws as export
-use Rattle.gerg_calls.specs.Calls.{evaluatedOf, propertiesOf, fugacityAnswer, densityCall}
+use Rattle.gerg_calls.specs.Calls.{evaluatedOf, propertiesIn, fugacityIn, densityIn}
 use Rattle.gerg_equilibrium.specs.Equilibrium.{rootsCall, saturationCall}
 use Rattle.gerg_api.specs.Promised.{Prepared}
 use Rattle.gerg_prepared.proofs.Refused.{nothing-refused, components-listed, late}
@@ -60,14 +61,14 @@ module _ (bytes list : List ℕ) (fractions : List Float) where
     abbrev value : ℕ
     value = valueOf (m .refusal)
 
-    pub properties-rows : (temperature rho : Float) → propertiesOf bytes list fractions temperature rho ≡ answer.Refused number value
-    properties-rows temperature rho = properties-through bytes list fractions (λ a. a ≡ answer.Refused number value) temperature rho (λ b. refl) (λ e. absurd (bad (ap numberOf e)))
+    pub properties-rows : (range : Range) (temperature rho : Float) → propertiesIn bytes list fractions range temperature rho ≡ answer.Refused number value
+    properties-rows range temperature rho = properties-through bytes list fractions (λ a. a ≡ answer.Refused number value) range temperature rho (λ b. refl) (λ e. absurd (bad (ap numberOf e)))
 
-    pub fugacity-rows : (temperature rho : Float) (out : List Float) → fugacityAnswer bytes list fractions temperature rho out ≡ answer.Refused number value
-    fugacity-rows temperature rho out = fugacity-through bytes list fractions (λ a l. a ≡ answer.Refused number value) temperature rho out (λ b. refl) (λ e. absurd (bad (ap numberOf e))) (λ e. absurd (bad (ap numberOf e)))
+    pub fugacity-rows : (range : Range) (temperature rho : Float) (out : List Float) → fugacityIn bytes list fractions range temperature rho out ≡ answer.Refused number value
+    fugacity-rows range temperature rho out = fugacity-through bytes list fractions (λ a l. a ≡ answer.Refused number value) range temperature rho out (λ b. refl) (λ e. absurd (bad (ap numberOf e))) (λ e. absurd (bad (ap numberOf e)))
 
-    pub density-rows : (temperature target : Float) (o : Options) → densityCall bytes list fractions temperature target o ≡ density.Refused number value
-    density-rows temperature target o = density-through bytes list fractions (λ a l. a ≡ density.Refused number value) temperature target o (λ b. refl) (λ e. absurd (bad (ap numberOf e)))
+    pub density-rows : (range : Range) (temperature target : Float) (o : Options) → densityIn bytes list fractions range temperature target o ≡ density.Refused number value
+    density-rows range temperature target o = density-through bytes list fractions (λ a l. a ≡ density.Refused number value) range temperature target o (λ b. refl) (λ e. absurd (bad (ap numberOf e)))
 
     pub roots-rows : (temperature pressure : Float) (out : List Float) → rootsCall bytes list fractions temperature pressure out ≡ roots.Refused number value
     roots-rows temperature pressure out = roots-through bytes list fractions (λ a l. a ≡ roots.Refused number value) temperature pressure out (λ b. refl) (λ e. absurd (bad (ap numberOf e)))
@@ -86,84 +87,84 @@ module _ (bytes list : List ℕ) (fractions : List Float) where
   unrefused b z = absurd (b (nothing-refused bytes list fractions z))
 
   -- ---- of each call: its number is one of the table up to the last row that it can meet; its value is below 2^32; so its code is number × 2^32 + value
-  module _ (temperature rho : Float) where
-    pub properties-number : ofProperties.numberOf (propertiesOf bytes list fractions temperature rho) ≤ 12
+  module _ (range : Range) (temperature rho : Float) where
+    pub properties-number : ofProperties.numberOf (propertiesIn bytes list fractions range temperature rho) ≤ 12
     properties-number =
-        properties-through bytes list fractions (λ a. ofProperties.numberOf a ≤ 12) temperature rho (λ b. early 12 (omega arith))
-        (λ e. laws.properties-number t m temperature rho)
+        properties-through bytes list fractions (λ a. ofProperties.numberOf a ≤ 12) range temperature rho (λ b. early 12 (omega arith))
+        (λ e. laws.properties-number t m range temperature rho)
 
-    pub properties-value : ofProperties.valueOf (propertiesOf bytes list fractions temperature rho) < 2 ^ 32
+    pub properties-value : ofProperties.valueOf (propertiesIn bytes list fractions range temperature rho) < 2 ^ 32
     properties-value =
-        properties-through bytes list fractions (λ a. ofProperties.valueOf a < 2 ^ 32) temperature rho (λ b. rows-value bytes list fractions)
-        (λ e. omega (arith, laws.stated-value (evaluatedOf t m temperature rho)))
+        properties-through bytes list fractions (λ a. ofProperties.valueOf a < 2 ^ 32) range temperature rho (λ b. rows-value bytes list fractions)
+        (λ e. omega (arith, laws.stated-value (evaluatedOf t m range temperature rho)))
 
     pub properties-code :
-        propertiesCode (propertiesOf bytes list fractions temperature rho) ≡
-        ofProperties.numberOf (propertiesOf bytes list fractions temperature rho) * 2 ^ 32 + ofProperties.valueOf (propertiesOf bytes list fractions temperature rho)
-    properties-code = export.properties-code (propertiesOf bytes list fractions temperature rho) properties-value
+        propertiesCode (propertiesIn bytes list fractions range temperature rho) ≡
+        ofProperties.numberOf (propertiesIn bytes list fractions range temperature rho) * 2 ^ 32 + ofProperties.valueOf (propertiesIn bytes list fractions range temperature rho)
+    properties-code = export.properties-code (propertiesIn bytes list fractions range temperature rho) properties-value
 
     -- "Every bad input is refused under a number of its own": 0 is no refusal's, it means a state
-    pub properties-accepted : ofProperties.numberOf (propertiesOf bytes list fractions temperature rho) ≡ 0 → (s : GergState) × (propertiesOf bytes list fractions temperature rho ≡ answer.State s)
+    pub properties-accepted : ofProperties.numberOf (propertiesIn bytes list fractions range temperature rho) ≡ 0 → (s : GergState) × (propertiesIn bytes list fractions range temperature rho ≡ answer.State s)
     properties-accepted =
-        properties-through bytes list fractions (λ a. ofProperties.numberOf a ≡ 0 → (s : GergState) × (a ≡ answer.State s)) temperature rho unrefused (λ e. laws.properties-accepted t m temperature rho)
+        properties-through bytes list fractions (λ a. ofProperties.numberOf a ≡ 0 → (s : GergState) × (a ≡ answer.State s)) range temperature rho unrefused (λ e. laws.properties-accepted t m range temperature rho)
 
     module _ (out : List Float) where
-      pub fugacity-number : ofProperties.numberOf (fugacityAnswer bytes list fractions temperature rho out) ≤ 24
+      pub fugacity-number : ofProperties.numberOf (fugacityIn bytes list fractions range temperature rho out) ≤ 24
       fugacity-number =
-          fugacity-through bytes list fractions (λ a l. ofProperties.numberOf a ≤ 24) temperature rho out (λ b. early 24 (omega arith)) (λ e. omega arith)
-          (λ e. omega (arith, laws.fugacity-number t m temperature rho))
+          fugacity-through bytes list fractions (λ a l. ofProperties.numberOf a ≤ 24) range temperature rho out (λ b. early 24 (omega arith)) (λ e. omega arith)
+          (λ e. omega (arith, laws.fugacity-number t m range temperature rho))
 
-      pub fugacity-value : ofProperties.valueOf (fugacityAnswer bytes list fractions temperature rho out) < 2 ^ 32
+      pub fugacity-value : ofProperties.valueOf (fugacityIn bytes list fractions range temperature rho out) < 2 ^ 32
       fugacity-value =
-          fugacity-through bytes list fractions (λ a l. ofProperties.valueOf a < 2 ^ 32) temperature rho out (λ b. rows-value bytes list fractions)
-          (λ e. omega (arith, few e)) (λ e. omega (arith, laws.fugacity-value t m temperature rho (evaluatedOf t m temperature rho)))
+          fugacity-through bytes list fractions (λ a l. ofProperties.valueOf a < 2 ^ 32) range temperature rho out (λ b. rows-value bytes list fractions)
+          (λ e. omega (arith, few e)) (λ e. omega (arith, laws.fugacity-value t m range temperature rho (evaluatedOf t m range temperature rho)))
 
       -- row 24: "Needed here: as many doubles as the list is long"
       pub fugacity-needed :
-          ofProperties.numberOf (fugacityAnswer bytes list fractions temperature rho out) ≡ 24 → ofProperties.valueOf (fugacityAnswer bytes list fractions temperature rho out) ≡ length list
+          ofProperties.numberOf (fugacityIn bytes list fractions range temperature rho out) ≡ 24 → ofProperties.valueOf (fugacityIn bytes list fractions range temperature rho out) ≡ length list
       fugacity-needed =
-          fugacity-through bytes list fractions (λ a l. ofProperties.numberOf a ≡ 24 → ofProperties.valueOf a ≡ length list) temperature rho out
+          fugacity-through bytes list fractions (λ a l. ofProperties.numberOf a ≡ 24 → ofProperties.valueOf a ≡ length list) range temperature rho out
           (λ b. late bytes list fractions 24 (omega arith)) (λ e h. components-listed bytes list fractions e)
-          (λ e h. absurd (twelve (laws.fugacity-number t m temperature rho) h))
+          (λ e h. absurd (twelve (laws.fugacity-number t m range temperature rho) h))
         where
           twelve : {n : ℕ} → n ≤ 12 → n ≡ 24 → ⊥
           twelve a b = omega arith
 
       pub fugacity-code :
-          propertiesCode (fugacityAnswer bytes list fractions temperature rho out) ≡
-          ofProperties.numberOf (fugacityAnswer bytes list fractions temperature rho out) * 2 ^ 32 + ofProperties.valueOf (fugacityAnswer bytes list fractions temperature rho out)
-      fugacity-code = export.properties-code (fugacityAnswer bytes list fractions temperature rho out) fugacity-value
+          propertiesCode (fugacityIn bytes list fractions range temperature rho out) ≡
+          ofProperties.numberOf (fugacityIn bytes list fractions range temperature rho out) * 2 ^ 32 + ofProperties.valueOf (fugacityIn bytes list fractions range temperature rho out)
+      fugacity-code = export.properties-code (fugacityIn bytes list fractions range temperature rho out) fugacity-value
 
       -- "Every bad input is refused under a number of its own": 0 is no refusal's, it means a state; its coefficients are written (`Memory.fugacity-writes`)
       pub fugacity-accepted :
-          ofProperties.numberOf (fugacityAnswer bytes list fractions temperature rho out) ≡ 0 → (s : GergState) × (fugacityAnswer bytes list fractions temperature rho out ≡ answer.State s)
+          ofProperties.numberOf (fugacityIn bytes list fractions range temperature rho out) ≡ 0 → (s : GergState) × (fugacityIn bytes list fractions range temperature rho out ≡ answer.State s)
       fugacity-accepted =
-          fugacity-through bytes list fractions (λ a l. ofProperties.numberOf a ≡ 0 → (s : GergState) × (a ≡ answer.State s)) temperature rho out
-          unrefused (λ e z. absurd (row-24 z)) (λ e. laws.fugacity-accepted t m temperature rho)
+          fugacity-through bytes list fractions (λ a l. ofProperties.numberOf a ≡ 0 → (s : GergState) × (a ≡ answer.State s)) range temperature rho out
+          unrefused (λ e z. absurd (row-24 z)) (λ e. laws.fugacity-accepted t m range temperature rho)
         where
           row-24 : _≡_ {A = ℕ} 24 0 → ⊥
           row-24 z = omega arith
 
-  module _ (temperature target : Float) (o : Options) where
-    pub density-number : ofDensity.numberOf (densityCall bytes list fractions temperature target o) ≤ 19
+  module _ (range : Range) (temperature target : Float) (o : Options) where
+    pub density-number : ofDensity.numberOf (densityIn bytes list fractions range temperature target o) ≤ 19
     density-number =
-        density-through bytes list fractions (λ a l. ofDensity.numberOf a ≤ 19) temperature target o (λ b. early 19 (omega arith)) (λ e. numbers.density-at-most-19 t (m .model) normalRange temperature target o)
+        density-through bytes list fractions (λ a l. ofDensity.numberOf a ≤ 19) range temperature target o (λ b. early 19 (omega arith)) (λ e. numbers.density-at-most-19 t (m .model) range temperature target o)
 
-    pub density-value : Doubles o → ofDensity.valueOf (densityCall bytes list fractions temperature target o) < 2 ^ 32
+    pub density-value : Doubles o → ofDensity.valueOf (densityIn bytes list fractions range temperature target o) < 2 ^ 32
     density-value doubles =
-        density-through bytes list fractions (λ a l. ofDensity.valueOf a < 2 ^ 32) temperature target o (λ b. rows-value bytes list fractions)
-        (λ e. search.value-below t (m .model) normalRange temperature target o doubles)
+        density-through bytes list fractions (λ a l. ofDensity.valueOf a < 2 ^ 32) range temperature target o (λ b. rows-value bytes list fractions)
+        (λ e. search.value-below t (m .model) range temperature target o doubles)
 
     pub density-code :
-        Doubles o → densityCode (densityCall bytes list fractions temperature target o) ≡
-        ofDensity.numberOf (densityCall bytes list fractions temperature target o) * 2 ^ 32 + ofDensity.valueOf (densityCall bytes list fractions temperature target o)
-    density-code doubles = export.density-code (densityCall bytes list fractions temperature target o) (density-value doubles)
+        Doubles o → densityCode (densityIn bytes list fractions range temperature target o) ≡
+        ofDensity.numberOf (densityIn bytes list fractions range temperature target o) * 2 ^ 32 + ofDensity.valueOf (densityIn bytes list fractions range temperature target o)
+    density-code doubles = export.density-code (densityIn bytes list fractions range temperature target o) (density-value doubles)
 
     -- "Every bad input is refused under a number of its own": 0 is no refusal's, it means an accepted density
-    pub density-accepted : ofDensity.numberOf (densityCall bytes list fractions temperature target o) ≡ 0 → (r : DensityResult) × (densityCall bytes list fractions temperature target o ≡ density.Accepted r)
+    pub density-accepted : ofDensity.numberOf (densityIn bytes list fractions range temperature target o) ≡ 0 → (r : DensityResult) × (densityIn bytes list fractions range temperature target o ≡ density.Accepted r)
     density-accepted =
-        density-through bytes list fractions (λ a l. ofDensity.numberOf a ≡ 0 → (r : DensityResult) × (a ≡ density.Accepted r)) temperature target o
-        unrefused (λ e. numbers.density-accepted t (m .model) normalRange temperature target o)
+        density-through bytes list fractions (λ a l. ofDensity.numberOf a ≡ 0 → (r : DensityResult) × (a ≡ density.Accepted r)) range temperature target o
+        unrefused (λ e. numbers.density-accepted t (m .model) range temperature target o)
 
   module _ (temperature pressure : Float) (out : List Float) where
     pub roots-number : ofRoots.numberOf (rootsCall bytes list fractions temperature pressure out) ≤ 24

@@ -9,6 +9,7 @@ use lib.ListN.{length}
 use Rattle.gerg_tables.specs.declared.Tables.{Tables}
 use Rattle.gerg_coefficients.specs.Answer.{tablesOf}
 use Rattle.gerg.specs.Helmholtz.{normalRange}
+use Rattle.gerg.specs.declared.Range.{Range}
 use Rattle.gerg.specs.Evaluate.{evaluateOf}
 use Rattle.gerg.specs.declared.evaluate.EvaluateAnswer.the-variants as evaluated
 use Rattle.gerg_search.specs.States.{Doubles}
@@ -27,14 +28,13 @@ use Rattle.gerg_ph.proofs.Promises as halving
 use Rattle.gerg_prepared.specs.Mixed.{gradientRows, mixedOf, numberOf, valueOf}
 use Rattle.gerg_prepared.specs.declared.Mixed.{Mixed}
 use Rattle.gerg_prepared.specs.declared.Refusal.the-variants.{Nothing}
-use Rattle.gerg_calls.specs.Calls.{densityCall, densityCallTrials}
+use Rattle.gerg_calls.specs.Calls.{densityIn, densityTrialsIn}
 use Rattle.gerg_equilibrium.specs.Equilibrium.{rootsCall, rootsWritten, saturationCall, saturationCallTrials}
 use Rattle.gerg_api.specs.Promised.{writtenDensity, AcceptedDensity, CollapsedCall, LimitedCall, ExhaustedCall}
 use Rattle.gerg_prepared.proofs.Refused.{nothing-refused, components-listed, late}
 use Rattle.gerg_calls.proofs.Laws.After.{properties-state, density-answer}
 use Rattle.gerg_calls.proofs.Laws.Carried.{density-through}
 use Rattle.gerg_equilibrium.proofs.Laws.Carried.{roots-through, saturation-through}
-use Rattle.gerg.proofs.Laws.Normal.{normal-pressure}
 
 module _ (bytes list : List ℕ) (fractions : List Float) where
   abbrev t : Tables
@@ -44,69 +44,69 @@ module _ (bytes list : List ℕ) (fractions : List Float) where
   m = mixedOf bytes list fractions
 
   -- ---- "A density search makes at most 600 interior trials whatever it is given; its counts, 'collapsed' and 'limit reached' mean exactly what document 01 says"
-  module _ (temperature target : Float) (o : Options) (doubles : Doubles o) where
+  module _ (range : Range) (temperature target : Float) (o : Options) (doubles : Doubles o) where
     -- "However the search ends the list has at most 600 densities, whatever the tables, mixture, T, target, bracket, tolerance, limit"
-    pub at-most-600 : length (densityCallTrials bytes list fractions temperature target o) ≤ 600
-    at-most-600 = density-through bytes list fractions (λ a l. length l ≤ 600) temperature target o (λ b. zero-le) (λ e. search.at-most-600 t (m .model) normalRange temperature target o doubles)
+    pub at-most-600 : length (densityTrialsIn bytes list fractions range temperature target o) ≤ 600
+    at-most-600 = density-through bytes list fractions (λ a l. length l ≤ 600) range temperature target o (λ b. zero-le) (λ e. search.at-most-600 t (m .model) range temperature target o doubles)
 
     -- "Any count that is reported is the list's length"
     pub collapsed-count :
-        ofDensity.numberOf (densityCall bytes list fractions temperature target o) ≡ 18 →
-        ofDensity.valueOf (densityCall bytes list fractions temperature target o) ≡ length (densityCallTrials bytes list fractions temperature target o)
+        ofDensity.numberOf (densityIn bytes list fractions range temperature target o) ≡ 18 →
+        ofDensity.valueOf (densityIn bytes list fractions range temperature target o) ≡ length (densityTrialsIn bytes list fractions range temperature target o)
     collapsed-count =
-        density-through bytes list fractions (λ a l. ofDensity.numberOf a ≡ 18 → ofDensity.valueOf a ≡ length l) temperature target o
-        (λ b. late bytes list fractions 18 (omega arith)) (λ e. search.collapsed-count t (m .model) normalRange temperature target o doubles)
+        density-through bytes list fractions (λ a l. ofDensity.numberOf a ≡ 18 → ofDensity.valueOf a ≡ length l) range temperature target o
+        (λ b. late bytes list fractions 18 (omega arith)) (λ e. search.collapsed-count t (m .model) range temperature target o doubles)
 
     pub limit-count :
-        ofDensity.numberOf (densityCall bytes list fractions temperature target o) ≡ 19 →
-        ofDensity.valueOf (densityCall bytes list fractions temperature target o) ≡ length (densityCallTrials bytes list fractions temperature target o)
+        ofDensity.numberOf (densityIn bytes list fractions range temperature target o) ≡ 19 →
+        ofDensity.valueOf (densityIn bytes list fractions range temperature target o) ≡ length (densityTrialsIn bytes list fractions range temperature target o)
     limit-count =
-        density-through bytes list fractions (λ a l. ofDensity.numberOf a ≡ 19 → ofDensity.valueOf a ≡ length l) temperature target o
-        (λ b. late bytes list fractions 19 (omega arith)) (λ e. search.limit-count t (m .model) normalRange temperature target o doubles)
+        density-through bytes list fractions (λ a l. ofDensity.numberOf a ≡ 19 → ofDensity.valueOf a ≡ length l) range temperature target o
+        (λ b. late bytes list fractions 19 (omega arith)) (λ e. search.limit-count t (m .model) range temperature target o doubles)
 
     -- "Under a limit of 600 or more the answer is never 19"
-    pub never-19 : 600 ≤ o .limit → ofDensity.numberOf (densityCall bytes list fractions temperature target o) ≡ 19 → ⊥
+    pub never-19 : 600 ≤ o .limit → ofDensity.numberOf (densityIn bytes list fractions range temperature target o) ≡ 19 → ⊥
     never-19 h =
-        density-through bytes list fractions (λ a l. ofDensity.numberOf a ≡ 19 → ⊥) temperature target o
-        (λ b. late bytes list fractions 19 (omega arith)) (λ e. search.never-19 t (m .model) normalRange temperature target o doubles h)
+        density-through bytes list fractions (λ a l. ofDensity.numberOf a ≡ 19 → ⊥) range temperature target o
+        (λ b. late bytes list fractions 19 (omega arith)) (λ e. search.never-19 t (m .model) range temperature target o doubles h)
 
     -- "19 only with as many trials as the limit and a double still between the ends"
-    pub limit-reached : ofDensity.numberOf (densityCall bytes list fractions temperature target o) ≡ 19 → LimitedCall bytes list fractions temperature target o
+    pub limit-reached : ofDensity.numberOf (densityIn bytes list fractions range temperature target o) ≡ 19 → LimitedCall bytes list fractions range temperature target o
     limit-reached h =
         let p = density-through bytes list fractions
-        (λ a l. ofDensity.numberOf a ≡ 19 → (l ≡ densityTrials t (m .model) normalRange temperature target o) × Limited t (m .model) normalRange temperature target o) temperature target o
-        (λ b. late bytes list fractions 19 (omega arith)) (λ e k. (refl, search.limit-reached t (m .model) normalRange temperature target o doubles k)) h in
+        (λ a l. ofDensity.numberOf a ≡ 19 → (l ≡ densityTrials t (m .model) range temperature target o) × Limited t (m .model) range temperature target o) range temperature target o
+        (λ b. late bytes list fractions 19 (omega arith)) (λ e k. (refl, search.limit-reached t (m .model) range temperature target o doubles k)) h in
         record { list-is = p .0; limited = p .1 }
 
     -- "18 only where two neighbouring doubles were both tried in that search, neither within the tolerance, the computed pressure of one below the target and of the other above it"
-    pub collapsed : ofDensity.numberOf (densityCall bytes list fractions temperature target o) ≡ 18 → CollapsedCall bytes list fractions temperature target o
+    pub collapsed : ofDensity.numberOf (densityIn bytes list fractions range temperature target o) ≡ 18 → CollapsedCall bytes list fractions range temperature target o
     collapsed h =
         let p = density-through bytes list fractions
-        (λ a l. ofDensity.numberOf a ≡ 18 → (l ≡ densityTrials t (m .model) normalRange temperature target o) × Collapsed t (m .model) normalRange temperature target o) temperature target o
-        (λ b. late bytes list fractions 18 (omega arith)) (λ e k. (refl, search.collapsed t (m .model) normalRange temperature target o doubles k)) h in
+        (λ a l. ofDensity.numberOf a ≡ 18 → (l ≡ densityTrials t (m .model) range temperature target o) × Collapsed t (m .model) range temperature target o) range temperature target o
+        (λ b. late bytes list fractions 18 (omega arith)) (λ e k. (refl, search.collapsed t (m .model) range temperature target o doubles k)) h in
         record { list-is = p .0; collapsed = p .1 }
 
     -- and 18 where no double is left between the ends after a trial that neither accepts nor refuses
-    pub exhausted : ExhaustedCall bytes list fractions temperature target o → ofDensity.numberOf (densityCall bytes list fractions temperature target o) ≡ 18
+    pub exhausted : ExhaustedCall bytes list fractions range temperature target o → ofDensity.numberOf (densityIn bytes list fractions range temperature target o) ≡ 18
     exhausted x =
-        ap ofDensity.numberOf (density-answer bytes list fractions temperature target o (nothing-refused bytes list fractions (x .prepared))) ∙ search.exhausted t (m .model) normalRange temperature target o doubles (x .exhausted)
+        ap ofDensity.numberOf (density-answer bytes list fractions range temperature target o (nothing-refused bytes list fractions (x .prepared))) ∙ search.exhausted t (m .model) range temperature target o doubles (x .exhausted)
 
     -- "An accepted density lies in the given bracket, ends allowed; its state's pressure is in (0, 35 MPa] and meets the tolerance as row 17 tests it; its stiffness and cv are positive";
-    -- its count is the list's length
+    -- the pressure's upper end as the range has it (`Ranges.accepted-35-MPa`, `accepted-70-MPa`); its count is the list's length
     pub accepted : (r : DensityResult) →
-        densityCall bytes list fractions temperature target o ≡ density.Accepted r → AcceptedDensity bytes list fractions temperature target o r
+        densityIn bytes list fractions range temperature target o ≡ density.Accepted r → AcceptedDensity bytes list fractions range temperature target o r
     accepted r h =
         let p = density-through bytes list fractions
-        (λ a l. a ≡ density.Accepted r → (m .refusal ≡ Nothing) × Arrived t (m .model) normalRange temperature target o r × (r .trials ≡ length l)) temperature target o
+        (λ a l. a ≡ density.Accepted r → (m .refusal ≡ Nothing) × Arrived t (m .model) range temperature target o r × (r .trials ≡ length l)) range temperature target o
         (λ b e. absurd (never (numberOf (m .refusal)) (valueOf (m .refusal)) e))
-        (λ n e. (n, search.accepted t (m .model) normalRange temperature target o doubles r e, search.accepted-count t (m .model) normalRange temperature target o doubles r e)) h in
+        (λ n e. (n, search.accepted t (m .model) range temperature target o doubles r e, search.accepted-count t (m .model) range temperature target o doubles r e)) h in
         let a = p .1 in
         record {
           from = subst (λ (x : Float). T (le (o .bracket .lo) x)) (sym (a .reported)) (a .from);
           to = subst (λ (x : Float). T (le x (o .bracket .hi))) (sym (a .reported)) (a .to);
-          state = properties-state bytes list fractions temperature (r .state .«molar_density») (r .state) (p .0) (subst (λ (x : Float). evaluateOf t (m .model) normalRange temperature x ≡ evaluated.State (r .state)) (sym (a .reported)) (a .state));
+          state = properties-state bytes list fractions range temperature (r .state .«molar_density») (r .state) (p .0) (subst (λ (x : Float). evaluateOf t (m .model) range temperature x ≡ evaluated.State (r .state)) (sym (a .reported)) (a .state));
           pressure-above = a .pressure-above;
-          pressure-at-most = subst (λ (x : Float). T (le (r .state .«pressure_pa») x)) normal-pressure (a .pressure-at-most);
+          pressure-at-most = a .pressure-at-most;
           check = a .check;
           stiffness = a .stiffness;
           cv = a .cv;
@@ -118,7 +118,7 @@ module _ (bytes list : List ℕ) (fractions : List Float) where
         never n v e = let z : _≡_ {A = ℕ} 0 1 = cc in omega arith
 
     pub accepted-count : (r : DensityResult) →
-        densityCall bytes list fractions temperature target o ≡ density.Accepted r → r .trials ≡ length (densityCallTrials bytes list fractions temperature target o)
+        densityIn bytes list fractions range temperature target o ≡ density.Accepted r → r .trials ≡ length (densityTrialsIn bytes list fractions range temperature target o)
     accepted-count r h = accepted r h .trials
 
   -- ---- "Saturation makes at most 60"

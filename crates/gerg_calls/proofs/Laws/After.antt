@@ -8,7 +8,7 @@ use lib.ListN.{getD}
 use Rattle.numerics.specs.Fill.{filled}
 use Rattle.gerg_tables.specs.declared.Tables.{Tables}
 use Rattle.gerg_coefficients.specs.Answer.{answerOf, tablesOf}
-use Rattle.gerg.specs.Helmholtz.{normalRange}
+use Rattle.gerg.specs.declared.Range.{Range}
 use Rattle.gerg.specs.Evaluate.{evaluateOf}
 use Rattle.gerg.specs.declared.GergState.{GergState}
 use Rattle.gerg.specs.declared.evaluate.EvaluateAnswer.{EvaluateAnswer}
@@ -29,11 +29,11 @@ use Rattle.gerg_prepared.specs.declared.Refusal.the-variants.{Nothing}
 use Rattle.gerg_prepared.proofs.Laws.{after-nothing, same-mixed}
 use Rattle.gerg_answers.specs.PropertiesNumbers as ofProperties
 use Rattle.gerg_answers.specs.declared.PropertiesAnswer.the-variants as answer
-use Rattle.gerg_calls.specs.Calls.{statedOf, evaluatedOf, propertiesFrom, propertiesOf, withCoefficients, fugacityAfter, memoryAfter, densityCall, densityFrom}
+use Rattle.gerg_calls.specs.Calls.{statedOf, evaluatedOf, propertiesFrom, propertiesIn, withCoefficients, fugacityAfter, memoryAfter, densityIn, densityFrom}
 use Rattle.gerg_fugacity.proofs.Laws.Memory.{fugacity-leaves, fugacity-writes}
 
 -- ---- the number and value of a state's answer
-stated-number : (e : EvaluateAnswer) → ofProperties.numberOf (statedOf e) ≡ ofEvaluate.numberOf e
+pub stated-number : (e : EvaluateAnswer) → ofProperties.numberOf (statedOf e) ≡ ofEvaluate.numberOf e
 unfolding statedOf
 stated-number (evaluated.State s) = refl
 stated-number (evaluated.Refused n) = refl
@@ -45,32 +45,32 @@ stated-value (evaluated.Refused n) = refl
 
 -- what `properties` answers past rows 1 to 5
 pub properties-state :
-    (bytes list : List ℕ) (fractions : List Float) (temperature rho : Float) (s : GergState) → mixedOf bytes list fractions .refusal ≡ Nothing →
-    evaluateOf (tablesOf bytes) (mixedOf bytes list fractions .model) normalRange temperature rho ≡ evaluated.State s → propertiesOf bytes list fractions temperature rho ≡ answer.State s
-unfolding propertiesOf propertiesFrom evaluatedOf statedOf
-properties-state bytes list fractions temperature rho s n e =
-    after-nothing answer.Refused (mixedOf bytes list fractions .refusal) (statedOf (evaluateOf (tablesOf bytes) (mixedOf bytes list fractions .model) normalRange temperature rho)) n ∙ ap statedOf e
+    (bytes list : List ℕ) (fractions : List Float) (range : Range) (temperature rho : Float) (s : GergState) → mixedOf bytes list fractions .refusal ≡ Nothing →
+    evaluateOf (tablesOf bytes) (mixedOf bytes list fractions .model) range temperature rho ≡ evaluated.State s → propertiesIn bytes list fractions range temperature rho ≡ answer.State s
+unfolding propertiesIn propertiesFrom evaluatedOf statedOf
+properties-state bytes list fractions range temperature rho s n e =
+    after-nothing answer.Refused (mixedOf bytes list fractions .refusal) (statedOf (evaluateOf (tablesOf bytes) (mixedOf bytes list fractions .model) range temperature rho)) n ∙ ap statedOf e
 
 pub properties-number-is :
-    (bytes list : List ℕ) (fractions : List Float) (temperature rho : Float) → mixedOf bytes list fractions .refusal ≡ Nothing →
-    ofProperties.numberOf (propertiesOf bytes list fractions temperature rho) ≡ ofEvaluate.numberOf (evaluateOf (tablesOf bytes) (mixedOf bytes list fractions .model) normalRange temperature rho)
-unfolding propertiesOf propertiesFrom evaluatedOf
-properties-number-is bytes list fractions temperature rho n =
-    let e = evaluateOf (tablesOf bytes) (mixedOf bytes list fractions .model) normalRange temperature rho in
+    (bytes list : List ℕ) (fractions : List Float) (range : Range) (temperature rho : Float) → mixedOf bytes list fractions .refusal ≡ Nothing →
+    ofProperties.numberOf (propertiesIn bytes list fractions range temperature rho) ≡ ofEvaluate.numberOf (evaluateOf (tablesOf bytes) (mixedOf bytes list fractions .model) range temperature rho)
+unfolding propertiesIn propertiesFrom evaluatedOf
+properties-number-is bytes list fractions range temperature rho n =
+    let e = evaluateOf (tablesOf bytes) (mixedOf bytes list fractions .model) range temperature rho in
     ap ofProperties.numberOf (after-nothing answer.Refused (mixedOf bytes list fractions .refusal) (statedOf e) n) ∙ stated-number e
 
 -- two files with one answer and the same tables have the same properties
 pub same-properties :
-    (a b list : List ℕ) (fractions : List Float) (temperature rho : Float) → answerOf a ≡ answerOf b → tablesOf a ≡ tablesOf b → propertiesOf a list fractions temperature rho ≡ propertiesOf b list fractions temperature rho
-unfolding propertiesOf
-same-properties a b list fractions temperature rho answer same = rw (same, same-mixed a b list fractions answer same)
+    (a b list : List ℕ) (fractions : List Float) (range : Range) (temperature rho : Float) → answerOf a ≡ answerOf b → tablesOf a ≡ tablesOf b → propertiesIn a list fractions range temperature rho ≡ propertiesIn b list fractions range temperature rho
+unfolding propertiesIn
+same-properties a b list fractions range temperature rho answer same = rw (same, same-mixed a b list fractions answer same)
 
 -- and `density`
 pub density-answer :
-    (bytes list : List ℕ) (fractions : List Float) (temperature target : Float) (o : Options) → mixedOf bytes list fractions .refusal ≡ Nothing →
-    densityCall bytes list fractions temperature target o ≡ densityOf (tablesOf bytes) (mixedOf bytes list fractions .model) normalRange temperature target o
-unfolding densityCall densityFrom
-density-answer bytes list fractions temperature target o n = after-nothing density.Refused (mixedOf bytes list fractions .refusal) (densityOf (tablesOf bytes) (mixedOf bytes list fractions .model) normalRange temperature target o) n
+    (bytes list : List ℕ) (fractions : List Float) (range : Range) (temperature target : Float) (o : Options) → mixedOf bytes list fractions .refusal ≡ Nothing →
+    densityIn bytes list fractions range temperature target o ≡ densityOf (tablesOf bytes) (mixedOf bytes list fractions .model) range temperature target o
+unfolding densityIn densityFrom
+density-answer bytes list fractions range temperature target o n = after-nothing density.Refused (mixedOf bytes list fractions .refusal) (densityOf (tablesOf bytes) (mixedOf bytes list fractions .model) range temperature target o) n
 
 -- ---- a state's coefficients
 with-number : (s : GergState) (c : FugacityCheck) → ofProperties.numberOf (withCoefficients s c) ≡ ofFugacity.numberOf c
@@ -83,17 +83,17 @@ unfolding withCoefficients
 with-value s coefficients.Sound = refl
 with-value s (coefficients.Refused n v) = refl
 
-module _ (t : Tables) (m : Mixed) (temperature rho : Float) where
-  evaluated-number : ofEvaluate.numberOf (evaluatedOf t m temperature rho) ≤ 12
+module _ (t : Tables) (m : Mixed) (range : Range) (temperature rho : Float) where
+  evaluated-number : ofEvaluate.numberOf (evaluatedOf t m range temperature rho) ≤ 12
   unfolding evaluatedOf
-  evaluated-number = evaluate-at-most-12 t (m .model) normalRange temperature rho
+  evaluated-number = evaluate-at-most-12 t (m .model) range temperature rho
 
-  pub properties-number : ofProperties.numberOf (statedOf (evaluatedOf t m temperature rho)) ≤ 12
-  properties-number = subst (λ (n : ℕ). n ≤ 12) (sym (stated-number (evaluatedOf t m temperature rho))) evaluated-number
+  pub properties-number : ofProperties.numberOf (statedOf (evaluatedOf t m range temperature rho)) ≤ 12
+  properties-number = subst (λ (n : ℕ). n ≤ 12) (sym (stated-number (evaluatedOf t m range temperature rho))) evaluated-number
 
-  pub fugacity-number : ofProperties.numberOf (fugacityAfter t m temperature rho (evaluatedOf t m temperature rho)) ≤ 12
+  pub fugacity-number : ofProperties.numberOf (fugacityAfter t m temperature rho (evaluatedOf t m range temperature rho)) ≤ 12
   unfolding fugacityAfter statedOf
-  fugacity-number = go (evaluatedOf t m temperature rho) evaluated-number
+  fugacity-number = go (evaluatedOf t m range temperature rho) evaluated-number
     where
       go : (e : EvaluateAnswer) → ofEvaluate.numberOf e ≤ 12 → ofProperties.numberOf (fugacityAfter t m temperature rho e) ≤ 12
       go (evaluated.State s) h =
@@ -109,23 +109,23 @@ module _ (t : Tables) (m : Mixed) (temperature rho : Float) where
   fugacity-value (evaluated.Refused n) = refl
 
   -- number 0 is a state's
-  evaluated-accepted : ofEvaluate.numberOf (evaluatedOf t m temperature rho) ≡ 0 → (s : GergState) × (evaluatedOf t m temperature rho ≡ evaluated.State s)
+  evaluated-accepted : ofEvaluate.numberOf (evaluatedOf t m range temperature rho) ≡ 0 → (s : GergState) × (evaluatedOf t m range temperature rho ≡ evaluated.State s)
   unfolding evaluatedOf
-  evaluated-accepted = evaluate-accepted t (m .model) normalRange temperature rho
+  evaluated-accepted = evaluate-accepted t (m .model) range temperature rho
 
   stated-accepted : (e : EvaluateAnswer) → (ofEvaluate.numberOf e ≡ 0 → (s : GergState) × (e ≡ evaluated.State s)) → ofProperties.numberOf (statedOf e) ≡ 0 → (s : GergState) × (statedOf e ≡ answer.State s)
   unfolding statedOf
   stated-accepted e h z = let p = h (sym (stated-number e) ∙ z) in (p .0, ap statedOf (p .1))
 
-  pub properties-accepted : ofProperties.numberOf (statedOf (evaluatedOf t m temperature rho)) ≡ 0 → (s : GergState) × (statedOf (evaluatedOf t m temperature rho) ≡ answer.State s)
-  properties-accepted = stated-accepted (evaluatedOf t m temperature rho) evaluated-accepted
+  pub properties-accepted : ofProperties.numberOf (statedOf (evaluatedOf t m range temperature rho)) ≡ 0 → (s : GergState) × (statedOf (evaluatedOf t m range temperature rho) ≡ answer.State s)
+  properties-accepted = stated-accepted (evaluatedOf t m range temperature rho) evaluated-accepted
 
   -- for its coefficients too
   pub fugacity-accepted :
-      ofProperties.numberOf (fugacityAfter t m temperature rho (evaluatedOf t m temperature rho)) ≡ 0 →
-      (s : GergState) × (fugacityAfter t m temperature rho (evaluatedOf t m temperature rho) ≡ answer.State s)
+      ofProperties.numberOf (fugacityAfter t m temperature rho (evaluatedOf t m range temperature rho)) ≡ 0 →
+      (s : GergState) × (fugacityAfter t m temperature rho (evaluatedOf t m range temperature rho) ≡ answer.State s)
   unfolding fugacityAfter withCoefficients
-  fugacity-accepted = go (evaluatedOf t m temperature rho) evaluated-accepted
+  fugacity-accepted = go (evaluatedOf t m range temperature rho) evaluated-accepted
     where
       go :
           (e : EvaluateAnswer) → (ofEvaluate.numberOf e ≡ 0 → (s : GergState) × (e ≡ evaluated.State s)) → ofProperties.numberOf (fugacityAfter t m temperature rho e) ≡ 0 →

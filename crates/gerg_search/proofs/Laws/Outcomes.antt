@@ -45,6 +45,13 @@ report-failed (Try y) n b m k h e = absurd (h y refl)
 report-failed (Accepted y) n b m k h e = differ (cc)
 report-failed (Refused j) n b m k h e = (cc, cc)
 
+-- past rows 13 and 14 a refusal at the low end is the search's
+pub low-refused :
+    (high target : Float) (o : Options) (v : Float → Sample) (n : ℕ) → optionsRefused o ≡ false → targetRefused high target ≡ false → v (o .bracket .lo) ≡ Stopped n →
+    outcomeOf high target o v ≡ Failed n (refusalValue n (length (searched o v)))
+unfolding outcomeOf reported
+low-refused high target o v n e f q = rw (e, f, stopped-low o v n q)
+
 -- ---- the search behind an outcome that is neither 13 nor 14
 pub record Searched (high target : Float) (o : Options) (v : Float → Sample) : Type 0 where
   pub outcome : outcomeOf high target o v ≡ reported (answerOf o v) (length (searched o v)) (lastOf o v .bracket)

@@ -1,4 +1,4 @@
--- What row 13 leaves of the bracket and the tolerance, and what the ends' verdicts leave of their signs. Assumes nothing.
+-- What row 13 leaves of the bracket and the tolerance, row 14 of the target, and what the ends' verdicts leave of their signs. Assumes nothing.
 use mathlib.Core.Path.{_≡_, refl, sym, ap, _∙_, subst}
 use mathlib.Core.Bool.{Bool, true, false, not, _||_}
 use Prim.Native.Nat.{ℕ, zero, suc, _*_, _^_, _≤_, _<_}
@@ -9,12 +9,13 @@ use lib.IntN.{pos, negsuc}
 use lib.Dec.{T, eqb, lit≤}
 use lib.Ieee.{Float, fin, ofBits, isNan, lt, le, neg}
 use lib.Ieee.Scale.{finite}
-use lib.Ieee.Positive.{num, den, positive}
+use lib.Ieee.Positive.{num, den, positive, le-trans-positive}
 use Rattle.numerics.specs.Frac.{Frac, _⊑_, ⊑-trans, nat}
 use Rattle.numerics.specs.Round.{val}
 use Rattle.numerics.specs.Common.{on-le}
 use Rattle.numerics.specs.Double.{+0, pick}
-use Rattle.numerics.specs.Tests.{clash, not-false, or-false}
+use Rattle.numerics.specs.Tests.{clash, holds, is-true, not-false, or-false}
+use Rattle.numerics.specs.Order.{not-less, less-numbers, not-greater, positive-above}
 use Rattle.numerics.specs.Zero.{at-least, above-it, above-zero, level-with-zero}
 use Rattle.numerics.specs.Spacing.{unit, count, counted, Good, cross→lt, cross→count}
 use Rattle.numerics.specs.SpacingRounded.{Ranged}
@@ -115,6 +116,16 @@ target-positive high target e =
     let e2 = or-false (not (finite target) || le target +0) (lt high target) e in
     let e1 = or-false (not (finite target)) (le target +0) (e2 .0) in
     above-zero target (not-false (finite target) (e1 .0)) (e1 .1)
+
+-- and leaves under a higher end too
+pub target-within : (a b target : Float) → T (positive a) → T (positive b) → T (le a b) → targetRefused a target ≡ false → targetRefused b target ≡ false
+unfolding targetRefused
+target-within a b target p q h e =
+    let e2 = or-false (not (finite target) || le target +0) (lt a target) e in
+    let r = target-positive a target e in
+    let l = not-less a target (less-numbers +0 a (positive-above a p) .1) (less-numbers +0 target (positive-above target r) .1) (e2 .1) in
+    let u = le-trans-positive target a b r p q (holds (le target a) l) h in
+    rw (e2 .0, not-greater target b (is-true (le target b) u))
 
 pub some-limit : (o : Options) → Begun o → 1 ≤ o .limit
 some-limit o b = go (o .limit) (eqb-false (o .limit) 0 (b .limit))

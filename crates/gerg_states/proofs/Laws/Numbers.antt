@@ -19,7 +19,7 @@ use Rattle.gerg.specs.declared.Range.{Range}
 use Rattle.gerg.specs.declared.evaluate.EvaluateAnswer.{EvaluateAnswer}
 use Rattle.gerg.proofs.Laws.Numbers.{evaluate-at-most-12}
 use Rattle.gerg.proofs.Laws.Within.{Early, within-range, evaluate-late}
-use Rattle.gerg.proofs.Laws.Normal.{normal-low, normal-high}
+use Rattle.gerg.proofs.Laws.Ranges.{normal-low, normal-high}
 use Rattle.numerics.specs.Fill.{tabulate}
 use Rattle.gerg_prepared.specs.Mixed.{mixedOf, afterRows, memoryRows}
 use Rattle.gerg_prepared.specs.declared.Mixed.{Mixed}
@@ -67,7 +67,7 @@ module _ (seed n : ℕ) where
 module _ (bytes list : List ℕ) (fractions : List Float) (sound : mixedOf bytes list fractions .refusal ≡ Nothing) where
   pub prepared-number : (seed n : ℕ) → numberAt bytes list fractions seed n ≡ numberFrom (tablesOf bytes) (mixedOf bytes list fractions .model) (stateOf seed n)
   unfolding numberAt numberFrom
-  prepared-number seed n = properties-number-is bytes list fractions (stateOf seed n .temperature) (stateOf seed n .density) sound
+  prepared-number seed n = properties-number-is bytes list fractions normalRange (stateOf seed n .temperature) (stateOf seed n .density) sound
 
   pub prepared-counts : (run : Run) → countsFrom (tablesOf bytes) (mixedOf bytes list fractions .model) run ≡ countsOf bytes list fractions run
   unfolding countsFrom countsOf
@@ -109,7 +109,7 @@ accepted-counts bytes list fractions run out e = memory-nothing (runRefusal byte
 module _ (a b list : List ℕ) (fractions : List Float) (seed : ℕ) (answer : answerOf a ≡ answerOf b) (same : tablesOf a ≡ tablesOf b) where
   pub same-number : (n : ℕ) → numberAt a list fractions seed n ≡ numberAt b list fractions seed n
   unfolding numberAt
-  same-number n = ap ofProperties.numberOf (same-properties a b list fractions (stateOf seed n .temperature) (stateOf seed n .density) answer same)
+  same-number n = ap ofProperties.numberOf (same-properties a b list fractions normalRange (stateOf seed n .temperature) (stateOf seed n .density) answer same)
 
   pub same-refusal : runRefusal a list fractions seed ≡ runRefusal b list fractions seed
   unfolding runRefusal

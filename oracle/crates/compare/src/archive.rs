@@ -1,9 +1,12 @@
-//! The proved library through its C exports.
+//! The proved library through its C exports; with the feature `extended` those of the extended range, where there is one.
 use crate::case::{Answer, Call, Case, lent};
 
 unsafe extern "C" {
+    #[cfg_attr(feature = "extended", link_name = "gerg_properties_extended")]
     fn gerg_properties(file: *const u8, file_len: usize, list: *const u8, list_len: usize, x: *const f64, x_len: usize, t: f64, rho: f64, out: *mut f64) -> u64;
+    #[cfg_attr(feature = "extended", link_name = "gerg_fugacity_extended")]
     fn gerg_fugacity(file: *const u8, file_len: usize, list: *const u8, list_len: usize, x: *const f64, x_len: usize, t: f64, rho: f64, out: *mut f64, out_len: usize) -> u64;
+    #[cfg_attr(feature = "extended", link_name = "gerg_density_extended")]
     fn gerg_density(
         file: *const u8, file_len: usize, list: *const u8, list_len: usize, x: *const f64, x_len: usize,
         t: f64, target: f64, lo: f64, hi: f64, limit: u64, tolerance: f64, out: *mut f64,

@@ -1,4 +1,5 @@
 //! One call and its answer, as text lines too: `request` words, then what came back, doubles as bit patterns in hexadecimal.
+use crate::range::EXTENDED;
 use std::fmt;
 
 #[derive(Clone, Debug)]
@@ -71,7 +72,8 @@ impl fmt::Display for Case {
             Call::Roots { t, p } => ("roots", vec![t, p], 0),
             Call::Saturation { p, lo, hi, limit } => ("saturation", vec![p, lo, hi], limit),
         };
-        write!(f, "{name} {}", self.mixture.list.len())?;
+        let range = if EXTENDED { "-extended" } else { "" };
+        write!(f, "{name}{range} {}", self.mixture.list.len())?;
         for number in &self.mixture.list {
             write!(f, " {number}")?;
         }

@@ -1,13 +1,8 @@
 //! Calls of exterior roots and of saturation made from a seed. Mixtures are of components 1 to 5, in any order, with zeros, −0 and subnormal
 //! fractions; some lists have a component beyond 5 (row 20), some are bad (rows 3 and 4).
 use crate::case::{Call, Case, Mixture};
-use crate::generate::{Random, damaged, fractions, near, shuffled};
+use crate::generate::{Random, around, damaged, fractions, near, shuffled};
 use crate::upstream;
-
-/// A bound and the doubles next to it.
-fn around(bound: f64) -> [f64; 3] {
-    [bound.next_down(), bound, bound.next_up()]
-}
 
 fn pure(gas: u8) -> Mixture {
     Mixture { list: vec![gas], fractions: vec![1.0] }

@@ -2,6 +2,8 @@
 use crate::archive::room_of;
 use crate::case::{Call, Case, Mixture};
 use crate::equilibrium;
+use crate::extended;
+use crate::range::{EXTENDED, RANGE};
 use crate::upstream;
 
 pub struct Random(u64);
@@ -41,6 +43,11 @@ impl Random {
 const ODD: [f64; 12] = [
     f64::NAN, f64::INFINITY, f64::NEG_INFINITY, 0.0, -0.0, -1.0, 5e-324, 2.2250738585072014e-308, 1.7976931348623157e308, 1e-300, 1e300, -300.0,
 ];
+
+/// A bound and the doubles next to it.
+pub fn around(bound: f64) -> [f64; 3] {
+    [bound.next_down(), bound, bound.next_up()]
+}
 
 /// A bound, the doubles next to it, and what is no number for it.
 pub fn near(r: &mut Random, bounds: &[f64]) -> f64 {
@@ -99,9 +106,13 @@ pub fn damaged(r: &mut Random, mixture: &mut Mixture) {
     }
 }
 
-fn mixture(r: &mut Random, last: u8) -> Mixture {
-    let count = if r.one_in(8) { last as usize } else { 1 + r.below(last.into()) as usize };
-    let mut mixture = Mixture { list: shuffled(r, last, count), fractions: fractions(r, count) };
+fn of_any(r: &mut Random) -> Mixture {
+    let count = if r.one_in(8) { 21 } else { 1 + r.below(21) as usize };
+    Mixture { list: shuffled(r, 21, count), fractions: fractions(r, count) }
+}
+
+fn mixture(r: &mut Random) -> Mixture {
+    let mut mixture = if EXTENDED && r.one_in(3) { extended::hydrogen(r) } else { of_any(r) };
     if r.one_in(40) {
         damaged(r, &mut mixture);
     }
@@ -109,11 +120,18 @@ fn mixture(r: &mut Random, last: u8) -> Mixture {
 }
 
 fn temperature(r: &mut Random) -> f64 {
-    if r.one_in(25) { near(r, &[200.0, 450.0]) } else { r.between(200.0, 450.0) }
+    if r.one_in(25) { near(r, &[RANGE.coldest, RANGE.hottest]) } else { r.between(RANGE.coldest, RANGE.hottest) }
 }
 
 fn rho(r: &mut Random) -> f64 {
     if r.one_in(25) { near(r, &[1e-3, 30000.0]) } else { r.log_between(1e-3, 30000.0) }
+}
+
+/// Temperature and density.
+fn state(r: &mut Random, mixture: &Mixture) -> (f64, f64) {
+    let (t, rho) = (temperature(r), rho(r));
+    let dense = if EXTENDED && r.one_in(3) { extended::dense(r, mixture, t) } else { None };
+    (t, dense.map_or(rho, |(at, _)| at))
 }
 
 /// The pressure of the state at a density, where there is one.
@@ -123,13 +141,19 @@ fn pressure_at(mixture: &Mixture, t: f64, rho: f64) -> Option<f64> {
     (answer.number == 0).then(|| answer.out[3])
 }
 
+/// Mostly the pressure at a density, so that a bracket about it encloses the target.
+fn target_at(r: &mut Random, mixture: &Mixture, t: f64, at: f64) -> f64 {
+    match pressure_at(mixture, t, at) {
+        Some(p) if !r.one_in(12) => p,
+        _ if r.one_in(4) => near(r, &[RANGE.highest_pressure, 1.0]),
+        _ => r.log_between(1.0, RANGE.highest_pressure),
+    }
+}
+
 fn density_call(r: &mut Random, mixture: &Mixture) -> Call {
     let (t, at) = (temperature(r), r.log_between(1e-3, 20000.0));
-    let target = match pressure_at(mixture, t, at) {
-        Some(p) if !r.one_in(12) => p,
-        _ if r.one_in(4) => near(r, &[35e6, 1.0]),
-        _ => r.log_between(1.0, 35e6),
-    };
+    let dense = if EXTENDED && r.one_in(3) { extended::dense(r, mixture, t) } else { None };
+    let (at, target) = dense.unwrap_or_else(|| (at, target_at(r, mixture, t, at)));
     let (mut lo, mut hi) = match r.below(6) {
         0 => (at, at * (1.0 + r.unit())),
         1 => (at * (1.0 - 0.9 * r.unit()), at),
@@ -166,11 +190,12 @@ pub fn case(r: &mut Random, kind: &str) -> Case {
         "saturation" => return equilibrium::saturation(r),
         _ => {}
     }
-    let mixture = mixture(r, 21);
-    let call = match kind {
-        "properties" => Call::Properties { t: temperature(r), rho: rho(r) },
-        "fugacity" => Call::Fugacity { t: temperature(r), rho: rho(r) },
-        _ => density_call(r, &mixture),
+    let mixture = mixture(r);
+    let call = if kind == "density" {
+        density_call(r, &mixture)
+    } else {
+        let (t, rho) = state(r, &mixture);
+        if kind == "properties" { Call::Properties { t, rho } } else { Call::Fugacity { t, rho } }
     };
     let needed = mixture.list.len();
     let spare = match r.below(6) {

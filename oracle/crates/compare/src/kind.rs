@@ -1,5 +1,6 @@
 //! The kinds of the stored lists, and how many of each a list has.
 use crate::case::{Answer, Call, Case};
+use crate::extended::features;
 use crate::generate::{self, Random};
 use crate::upstream;
 use std::collections::BTreeMap;
@@ -37,12 +38,28 @@ fn kind(case: &Case, answer: &Answer) -> String {
     named.into()
 }
 
+fn head(text: &str, seed: u64) {
+    println!("# Made by tests/replay/make: the Rust of oracle/upstream{text} over this library's elementary functions, data/gerg-2008.bin, seed {seed}.");
+}
+
+/// A list of the extended range has no kinds but features, of which a line can have several.
+pub fn extended_head<'a>(seed: u64, lines: impl Iterator<Item = (&'a Case, &'a Answer)>) {
+    let mut counts: BTreeMap<&str, usize> = BTreeMap::new();
+    for name in lines.flat_map(|(case, answer)| features(case, answer)) {
+        *counts.entry(name).or_default() += 1;
+    }
+    head(" with the ends of the extended range", seed);
+    for (name, count) in counts {
+        println!("# {name} {count}");
+    }
+}
+
 /// Prints a stored list: its maker, how many of each kind, then a line a call with its kind and the Rust's answer. Calls are drawn from the seed until
 /// every kind has its number; those of a kind that is full are left out.
 pub fn store(seed: u64, of: &str) {
     let kinds: &[(&str, usize)] = if of == "roots" { &ROOTS } else { &SATURATION };
     let mut wanted: BTreeMap<&str, usize> = kinds.iter().copied().collect();
-    println!("# Made by tests/replay/make: the Rust of oracle/upstream over this library's elementary functions, data/gerg-2008.bin, seed {seed}.");
+    head("", seed);
     for (name, count) in kinds {
         println!("# {name} {count}");
     }

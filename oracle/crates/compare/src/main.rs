@@ -3,18 +3,23 @@
 //!     GERG_FILE=FILE compare SEED KIND=COUNT ..      counts what was compared; exit status 1 where an answer differs
 //!     GERG_FILE=FILE compare --answers SEED KIND=COUNT ..     prints each call with the Rust's answer, a line each, for the stored list
 //!     GERG_FILE=FILE compare --store SEED roots|saturation    prints a stored list with its kinds
+//!
+//! Built with the feature `extended` it does so in the extended range, which roots and saturation do not have.
 mod archive;
 mod case;
 mod equilibrium;
+mod extended;
 mod generate;
 mod kind;
+mod range;
 mod upstream;
 use case::{Answer, Call, Case};
 use generate::Random;
+use range::{EXTENDED, RANGE};
 use std::collections::BTreeMap;
 use std::process::ExitCode;
 
-const KINDS: [&str; 6] = ["properties", "fugacity", "density", "roots", "saturation", "edges"];
+const KINDS: &[&str] = if EXTENDED { &["properties", "fugacity", "density", "edges"] } else { &["properties", "fugacity", "density", "roots", "saturation", "edges"] };
 
 #[derive(Default)]
 struct Counts {
@@ -29,7 +34,7 @@ fn recorded(case: &Case, expected: &Answer) -> Option<&'static str> {
     match (expected.number, &case.call) {
         (3, _) => Some("list"),
         (4, _) => Some("fractions"),
-        (14, Call::Density { target, .. }) if target.is_nan() || *target <= 35e6 => Some("target"),
+        (14, Call::Density { target, .. }) if target.is_nan() || *target <= RANGE.highest_pressure => Some("target"),
         (24, _) => Some("room"),
         (25, _) => Some("ends"),
         _ => None,
@@ -39,7 +44,8 @@ fn recorded(case: &Case, expected: &Answer) -> Option<&'static str> {
 /// As many calls of a kind as were asked for; all edges, however many were.
 fn calls(seed: u64, kind: &str, count: u64) -> Box<dyn Iterator<Item = Case>> {
     if kind == "edges" {
-        return Box::new(equilibrium::edges().into_iter());
+        let edges = if EXTENDED { extended::edges() } else { equilibrium::edges() };
+        return Box::new(edges.into_iter());
     }
     let (mut random, kind) = (Random::new(seed ^ kind.bytes().fold(0, |a, b| a * 31 + u64::from(b))), kind.to_string());
     Box::new((0..count).map(move |_| generate::case(&mut random, &kind)))
@@ -69,9 +75,13 @@ fn list<K: std::fmt::Display>(counts: &BTreeMap<K, u64>) -> String {
 
 fn answers(seed: u64, kind: &str, count: u64) {
     let mut random = Random::new(seed);
-    for _ in 0..count {
-        let case = generate::case(&mut random, kind);
-        println!("{case} = {}", upstream::answer(&case));
+    let cases: Vec<Case> = (0..count).map(|_| generate::case(&mut random, kind)).collect();
+    let answers: Vec<Answer> = cases.iter().map(upstream::answer).collect();
+    if EXTENDED {
+        kind::extended_head(seed, cases.iter().zip(&answers));
+    }
+    for (case, answer) in cases.iter().zip(&answers) {
+        println!("{case} = {answer}");
     }
 }
 
@@ -83,13 +93,13 @@ fn main() -> ExitCode {
     let seed: u64 = words.first().and_then(|word| word.parse().ok()).expect("a seed");
     let mut unexplained = 0;
     for word in &words[1..] {
+        let (kind, count) = word.split_once('=').unwrap_or((word, ""));
+        assert!(KINDS.contains(&kind), "{kind}: one of {KINDS:?}");
         if mode == "--store" {
-            kind::store(seed, word);
+            kind::store(seed, kind);
             continue;
         }
-        let (kind, count) = word.split_once('=').expect("KIND=COUNT");
-        assert!(KINDS.contains(&kind), "{kind}: one of {KINDS:?}");
-        let count = count.parse().expect("a count");
+        let count = count.parse().expect("KIND=COUNT");
         if mode == "--answers" {
             answers(seed, kind, count);
             continue;

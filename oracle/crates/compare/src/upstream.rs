@@ -145,12 +145,29 @@ fn grid() -> Vec<f64> {
     grid
 }
 
-/// A sample's pressure at each grid point, where the mixture and all samples are accepted.
-pub fn grid_pressures(mixture: &Mixture, t: f64) -> Option<Vec<f64>> {
-    if table_refusal().or_else(|| mixture_refusal(mixture)).is_some() {
+/// The model of a mixture that rows 2 to 5 do not refuse.
+fn accepted_model(mixture: &Mixture) -> Option<GergModel> {
+    if table_refusal().or_else(|| mixture_refusal(mixture)).is_some() { None } else { model(mixture).ok() }
+}
+
+/// The last double before one at which the state's pressure is above p, found by halving; it chooses densities, and no answer is compared with it.
+pub fn density_below(mixture: &Mixture, t: f64, p: f64) -> Option<f64> {
+    let model = accepted_model(mixture)?;
+    let above = |rho: f64| Some(rho * GERG_GAS_CONSTANT * t * (1.0 + model.helmholtz(Temperature::new(t).unwrap(), rho).ok()?.ar_d) > p);
+    let (mut lo, mut hi) = (1e-3_f64, 30000.0_f64);
+    if !above(hi)? {
         return None;
     }
-    let model = model(mixture).ok()?;
+    while lo.next_up() < hi {
+        let mid = lo + 0.5 * (hi - lo);
+        if above(mid)? { hi = mid } else { lo = mid }
+    }
+    Some(lo)
+}
+
+/// A sample's pressure at each grid point, where the mixture and all samples are accepted.
+pub fn grid_pressures(mixture: &Mixture, t: f64) -> Option<Vec<f64>> {
+    let model = accepted_model(mixture)?;
     let pressure = |rho: &f64| Some(rho * (GERG_GAS_CONSTANT * t) * (1.0 + model.helmholtz(Temperature::new(t).unwrap(), *rho).ok()?.ar_d));
     grid().iter().map(pressure).collect()
 }

@@ -1,24 +1,17 @@
 -- `gerg_calls::density::density` meets its contract. Assumes nothing.
-use Rattle.gerg_calls.specs.Calls.{densityCall}
-use mathlib.Core.Path.{refl, _∙_}
-use Rattle.gerg_prepared.proofs.Laws.{call-ready, call-tables, call-mixed}
+use Rattle.gerg_calls.proofs.Laws.Chosen.{density-chosen}
 use borrow.Author.Needs.{needs}
 use Rattle.gerg_calls.proofs.density.density.Statement.{statement}
 use Rattle.gerg_calls.proofs.density.density.Tie as tie
 
-read-tables-into-requires : tie.Need-read-tables-into-requires
-read-tables-into-requires c κs = (refl, refl)
+normal-range-requires : tie.Need-normal-range-requires
+normal-range-requires c κs = search needs
 
-mixed-requires : tie.Need-mixed-requires
-mixed-requires c κs = search needs
-
-density-from-requires : tie.Need-density-from-requires
-density-from-requires c κs = λ h. call-ready _ _ _ _ _ (c .before .before .before .before .read-tables-into .ensures) (c .before .before .mixed .ensures) h .0
+density-in-requires : tie.Need-density-in-requires
+density-in-requires c κs = search needs
 
 returns : tie.Need-returns
-unfolding densityCall
-returns c = c .density-from .ensures ∙ rw (call-tables _ _ (c .before .before .before .before .before .read-tables-into .ensures), call-mixed _ _ _ _ _ (c .before .before .before .before .before .read-tables-into .ensures) (c .before .before .before .mixed .ensures))
+returns c = density-chosen _ _ _ _ _ _ _ _ _ (c .before .normal-range .ensures) (c .density-in .ensures)
 
 pub density-spec : {M : Type 1} → statement M
-density-spec =
-    tie.close (tie.spec read-tables-into-requires mixed-requires density-from-requires returns)
+density-spec = tie.close (tie.spec normal-range-requires density-in-requires returns)

@@ -10,18 +10,15 @@ use Rattle.gerg_calls.proofs.density.density_from.Tie as tie
 enum-told : tie.Need-enum-told
 enum-told c = search needs
 
-normal-range-requires : tie.Need-normal-range-requires
-normal-range-requires c κs = search needs
-
 density-requires : tie.Need-density-requires
-density-requires c κs = c .before .before .before .before .pre (c .before .enum-told .given .1)
+density-requires c κs = c .before .before .before .pre (c .enum-told .given .1)
 
 enum-known-refusal : tie.Need-enum-known-refusal
 enum-known-refusal c = search needs
 
 returns : tie.Need-returns
 unfolding densityFrom
-returns c = (rw (c .before .normal-range .ensures) at (c .density .ensures)) ∙ sym (after-nothing _ _ _ (c .before .before .enum-told .given .1))
+returns c = c .density .ensures ∙ sym (after-nothing _ _ _ (c .before .enum-told .given .1))
 
 returns-2 : tie.Need-returns-2
 unfolding densityFrom
@@ -32,7 +29,6 @@ density-from-spec =
     tie.close
     (tie.spec
     enum-told
-    normal-range-requires
     density-requires
     enum-known-refusal
     returns

@@ -1,28 +1,22 @@
 -- `gerg_calls::fugacity::fugacity` meets its contract. Assumes nothing.
-use Rattle.gerg_prepared.proofs.Laws.{call-ready, call-tables, call-mixed}
-use mathlib.Core.Path.{refl, _∙_}
-use Rattle.gerg_calls.specs.Calls.{fugacityAnswer, fugacityWritten}
+use Rattle.gerg_calls.proofs.Laws.Chosen.{fugacity-chosen, fugacity-memory-chosen}
 use borrow.Author.Needs.{needs}
 use Rattle.gerg_calls.proofs.fugacity.fugacity.Statement.{statement}
 use Rattle.gerg_calls.proofs.fugacity.fugacity.Tie as tie
 
-read-tables-into-requires : tie.Need-read-tables-into-requires
-read-tables-into-requires c κs = (refl, refl)
+normal-range-requires : tie.Need-normal-range-requires
+normal-range-requires c κs = search needs
 
-mixed-requires : tie.Need-mixed-requires
-mixed-requires c κs = search needs
-
-fugacity-from-requires : tie.Need-fugacity-from-requires
-fugacity-from-requires c κs = λ h. call-ready _ _ _ _ _ (c .before .before .before .before .before .read-tables-into .ensures) (c .before .before .before .mixed .ensures) h
+fugacity-in-requires : tie.Need-fugacity-in-requires
+fugacity-in-requires c κs = search needs
 
 same-length : tie.Need-same-length
 same-length c = search needs
 
 returns : tie.Need-returns
-unfolding fugacityAnswer fugacityWritten
-returns c = (c .before .before .fugacity-from .ensures .0 ∙ rw (call-tables _ _ (c .before .before .before .before .before .before .before .before .read-tables-into .ensures), call-mixed _ _ _ _ _ (c .before .before .before .before .before .before .before .before .read-tables-into .ensures) (c .before .before .before .before .before .before .mixed .ensures)), c .before .before .fugacity-from .ensures .1 ∙ rw (call-tables _ _ (c .before .before .before .before .before .before .before .before .read-tables-into .ensures), call-mixed _ _ _ _ _ (c .before .before .before .before .before .before .before .before .read-tables-into .ensures) (c .before .before .before .before .before .before .mixed .ensures)))
+returns c =
+    let e = c .before .before .before .before .normal-range .ensures in
+    (fugacity-chosen _ _ _ _ _ _ _ _ _ e (c .before .before .fugacity-in .ensures .0), fugacity-memory-chosen _ _ _ _ _ _ _ _ _ e (c .before .before .fugacity-in .ensures .1))
 
 pub fugacity-spec : {M : Type 1} → statement M
-fugacity-spec =
-    tie.close
-    (tie.spec read-tables-into-requires mixed-requires fugacity-from-requires same-length returns)
+fugacity-spec = tie.close (tie.spec normal-range-requires fugacity-in-requires same-length returns)

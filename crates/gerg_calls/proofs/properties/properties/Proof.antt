@@ -1,24 +1,17 @@
 -- `gerg_calls::properties::properties` meets its contract. Assumes nothing.
-use Rattle.gerg_prepared.proofs.Laws.{call-ready, call-tables, call-mixed}
-use mathlib.Core.Path.{refl, _∙_}
-use Rattle.gerg_calls.specs.Calls.{propertiesOf}
+use Rattle.gerg_calls.proofs.Laws.Chosen.{properties-chosen}
 use borrow.Author.Needs.{needs}
 use Rattle.gerg_calls.proofs.properties.properties.Statement.{statement}
 use Rattle.gerg_calls.proofs.properties.properties.Tie as tie
 
-read-tables-into-requires : tie.Need-read-tables-into-requires
-read-tables-into-requires c κs = (refl, refl)
+normal-range-requires : tie.Need-normal-range-requires
+normal-range-requires c κs = search needs
 
-mixed-requires : tie.Need-mixed-requires
-mixed-requires c κs = search needs
-
-properties-from-requires : tie.Need-properties-from-requires
-properties-from-requires c κs = λ h. call-ready _ _ _ _ _ (c .before .before .before .before .read-tables-into .ensures) (c .before .before .mixed .ensures) h .0
+properties-in-requires : tie.Need-properties-in-requires
+properties-in-requires c κs = search needs
 
 returns : tie.Need-returns
-unfolding propertiesOf
-returns c = c .properties-from .ensures ∙ rw (call-tables _ _ (c .before .before .before .before .before .read-tables-into .ensures), call-mixed _ _ _ _ _ (c .before .before .before .before .before .read-tables-into .ensures) (c .before .before .before .mixed .ensures))
+returns c = properties-chosen _ _ _ _ _ _ _ _ (c .before .normal-range .ensures) (c .properties-in .ensures)
 
 pub properties-spec : {M : Type 1} → statement M
-properties-spec =
-    tie.close (tie.spec read-tables-into-requires mixed-requires properties-from-requires returns)
+properties-spec = tie.close (tie.spec normal-range-requires properties-in-requires returns)

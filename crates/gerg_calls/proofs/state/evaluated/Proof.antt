@@ -4,9 +4,6 @@ use borrow.Author.Needs.{needs}
 use Rattle.gerg_calls.proofs.state.evaluated.Statement.{statement}
 use Rattle.gerg_calls.proofs.state.evaluated.Tie as tie
 
-normal-range-requires : tie.Need-normal-range-requires
-normal-range-requires c κs = search needs
-
 evaluate-requires : tie.Need-evaluate-requires
 evaluate-requires c κs = search needs
 
@@ -15,4 +12,4 @@ unfolding evaluatedOf
 returns c = cc
 
 pub evaluated-spec : {M : Type 1} → statement M
-evaluated-spec = tie.close (tie.spec normal-range-requires evaluate-requires returns)
+evaluated-spec = tie.close (tie.spec evaluate-requires returns)

@@ -1,2 +1,0 @@
--- What the program works out.
-pub mod Published
