@@ -7,6 +7,7 @@
 #include <stdio.h>
 #include <stdlib.h>
 #include <string.h>
+#include "../doubles.h"
 
 double elementary_exp(double), elementary_ln(double), elementary_sqrt(double), elementary_powf(double, double), elementary_powi(double, int32_t);
 double elementary_sinh(double), elementary_cosh(double), elementary_tanh(double);
@@ -15,9 +16,6 @@ typedef __float128 quad;
 #define QUIET UINT64_C(0x7ff8000000000000)
 
 static int passed, failed;
-
-static uint64_t bits(double x) { uint64_t n; memcpy(&n, &x, 8); return n; }
-static double of_bits(uint64_t n) { double x; memcpy(&x, &n, 8); return x; }
 
 static void expect(int right, const char *what) {
     if (right) passed++;
@@ -31,16 +29,6 @@ static void same(const char *what, double got, double want) {
 }
 #define SAME(call, want) same(#call, call, want)
 #define IS_NAN(call) same(#call, call, of_bits(QUIET))
-
-/* splitmix64 */
-static uint64_t state;
-static uint64_t next(void) {
-    uint64_t z = state += UINT64_C(0x9e3779b97f4a7c15);
-    z = (z ^ z >> 30) * UINT64_C(0xbf58476d1ce4e5b9);
-    z = (z ^ z >> 27) * UINT64_C(0x94d049bb133111eb);
-    return z ^ z >> 31;
-}
-static double uniform(double low, double high) { return low + (high - low) * ((next() >> 11) * 0x1p-53); }
 
 /* document 01's rule for powi, in C */
 static double powi_rule(double x, int32_t n) {

@@ -20,7 +20,7 @@ use Rattle.numerics.specs.EitherSign.{plus, minus}
 use Rattle.numerics.specs.Bound.{Bound, off, bound-near, bound-div, bound-close}
 use Rattle.elementary_exp.specs.Exp.{countedOf, stepsOf, withinOf}
 use Rattle.elementary_exp.specs.Range.{InRange}
-use Rattle.elementary_exp.specs.ExpTable.{tableEntry}
+use Rattle.elementary_exp.proofs.ExpEntries.{tableEntry}
 use Rattle.elementary_exp.proofs.ExpSteps.{Reach, steps-reach}
 use Rattle.elementary_distance.proofs.ExpParts.{over-den}
 use Rattle.elementary_distance.proofs.ExpRemainder.{reduced, reduced-rel, r-hi, r-lo, remainder-is}
@@ -30,6 +30,8 @@ use Rattle.elementary_exp.proofs.ExpTableGood.{Entry, entry-good}
 use Rattle.elementary_distance.proofs.ExpSum.{powers-of-two, steps-bound}
 use Rattle.elementary_distance.proofs.ExpPower.{scale}
 use Rattle.elementary_distance.proofs.ExpFloat.{answer-rel}
+use Rattle.elementary_distance.proofs.ExpEarlier.{earlierWithinOf}
+use Rattle.elementary_distance.proofs.ExpKept.{within-kept}
 
 -- ---- k steps more on each side
 mono : (p q r : Frac) → p ⊑ q → p ⊞ r ⊑ q ⊞ r
@@ -136,8 +138,8 @@ module _ (x : Float) (range : InRange x) where
   origin-bound = powers-of-two zeroPower (lit≤ tt)
 
   pub answer-near : Rel 15 (withinOf x) (val t ⊠ S 6 (val r) ⊠ scale (u / 64))
-  unfolding withinOf
-  answer-near = rw (remainder-is x range) (answer-rel r t (reduced-rel x range .pos) (omega (arith, r-hi x range)) (omega (arith, r-lo x range)) (u % 64) entry (u / 64) (fewer .0) (fewer .1))
+  unfolding earlierWithinOf
+  answer-near = rw (within-kept x range, remainder-is x range) (answer-rel r t (reduced-rel x range .pos) (omega (arith, r-hi x range)) (omega (arith, r-lo x range)) (u % 64) entry (u / 64) (fewer .0) (fewer .1))
 
   -- the answer is product / 2 ^ zeroPower
   pub answer-close : Close 15 (val (withinOf x)) (over product two-at-zero (pow-pos zeroPower))

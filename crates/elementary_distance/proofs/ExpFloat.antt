@@ -1,7 +1,7 @@
 -- The exponential's polynomial, table entry and power of two in binary64: the answer is within 15 roundings of 2 ^ (u / 64 - 2048) * entry * (sum of the series at r to degree 6). Assumes nothing.
 use mathlib.Core.Path.{_≡_, refl, sym}
-use Prim.Native.Nat.{ℕ, _+_, _*_, _^_, _≤_}
-use native.Mathlib.Nat.{le-trans, le-of-eq, mul-one, mul-le-mul, mul-le-mul-right, mul-le-mul-left}
+use Prim.Native.Nat.{ℕ, _+_, _*_, _^_, _≤_, _<_}
+use native.Mathlib.Nat.{le-trans, le-of-eq, mul-one, mul-le-mul, mul-le-mul-right, mul-le-mul-left, le-of-mul-le-mul-right}
 use native.Mathlib.Omega.{arith}
 use lib.Dec.{T, lit≤}
 use lib.Pow.{pow-mono}
@@ -10,12 +10,13 @@ use lib.Ieee.Positive.{num, den, positive, den-pos}
 use Rattle.numerics.specs.Double.{one}
 use Rattle.numerics.specs.Frac.{Frac, _⊑_, _⊞_, _⊠_, nat, ⊑-trans, Close, close-refl, close-mul, close-trans, close-same, le-of-under}
 use Rattle.numerics.specs.Round.{val, Rel}
-use Rattle.numerics.specs.Rel.{Ample, rel-exact, rel-weaken, rel-trans, rel-mul, rel-add}
+use Rattle.numerics.specs.Rel.{Ample, rel-exact, rel-weaken, rel-trans, rel-mul, rel-add, under-double}
 use Rattle.numerics.specs.Series.{sumTop, sumBot, S}
 use Rattle.numerics.specs.Horner.{fact, one-over, taylor, taylor-is, horner, count, horner-rel}
 use Rattle.numerics.specs.Tail.{S-one, tiny-above}
-use Rattle.elementary_exp.specs.Exp.{polynomialOf, scaleOf}
+use Rattle.elementary_exp.specs.Exp.{polynomialOf}
 use Rattle.elementary_exp.proofs.ExpTableGood.{Entry}
+use Rattle.elementary_distance.proofs.ExpEarlier.{scaleOf}
 use Rattle.elementary_distance.proofs.ExpPower.{scale, power-rel}
 use Rattle.elementary_exp.proofs.ExpConstants.{later, one-good, later-good, leastPower, mostPower, zeroPower}
 
@@ -80,6 +81,30 @@ module _ (r t : Float) (rp : T (positive r)) (r-hi : num r * 100 ≤ 2 * den r) 
       high : (t d : ℕ) → t * 1 ≤ 3 * d → t ≤ d * 1024
       high t d h = omega arith
 
+  abbrev p : Float
+  p = polynomialOf r
+
+  pub p-pos : T (positive p)
+  p-pos = p-rel .pos
+
+  -- the polynomial lies between 1 / 2000 and 6
+  pub p-least : den p ≤ num p * 2000
+  p-least =
+      let q = val r ⊠ inner (val r) in
+      cancel (num p) (den p) (q .top) (q .bot) (q .good) (under-double 12 q (val p) (lit≤ tt) (p-rel .near .ge)) (low (num r) (den r) (inner (val r) .top) (inner (val r) .bot) r-lo (inner-least (val r)))
+    where
+      low : (n d t b : ℕ) → d ≤ n * 1000 → b ≤ t → d * b ≤ n * t * 1000
+      low n d t b h k = omega (arith, mul-le-mul h k)
+
+      cancel : (n d t b : ℕ) → 0 < b → t * d ≤ 2 * (n * b) → b ≤ t * 1000 → d ≤ n * 2000
+      cancel n d t b B h k = le-of-mul-le-mul-right {k = b} (omega (arith, mul-le-mul-right d k)) B
+
+  pub p-most : num p ≤ 6 * den p
+  p-most = let q = val r ⊠ inner (val r) in cancel (num p) (den p) (q .top) (q .bot) (q .good) (under-double 12 (val p) q (lit≤ tt) (p-rel .near .le)) (part-most (val r) r-one)
+    where
+      cancel : (n d t b : ℕ) → 0 < b → n * b ≤ 2 * (t * d) → t * 1 ≤ 3 * b → n ≤ 6 * d
+      cancel n d t b B h k = le-of-mul-le-mul-right {k = b} (omega (arith, mul-le-mul-right d k)) B
+
   tp-rel : Rel 13 (mul binary64 t (polynomialOf r)) (val t ⊠ (val r ⊠ inner (val r)))
   tp-rel =
       rel-mul 0 12 t (polynomialOf r) (val t) (val r ⊠ inner (val r)) (rel-exact t (entry .pos)) p-rel (lit≤ tt)
@@ -94,6 +119,19 @@ module _ (r t : Float) (rp : T (positive r)) (r-hi : num r * 100 ≤ 2 * den r) 
 
       high : (n d p q : ℕ) → n ≤ 2 * d → p * 1 ≤ 3 * q → n * p ≤ d * q * 1024
       high n d p q h k = omega (arith, mul-le-mul h k)
+
+  -- and its product with the entry is 12 at most
+  pub tp-most : num (mul binary64 t p) ≤ 12 * den (mul binary64 t p)
+  tp-most =
+      let q = val t ⊠ (val r ⊠ inner (val r)) in
+      let v = mul binary64 t p in
+      cancel (num v) (den v) (q .top) (q .bot) (q .good) (under-double 13 (val v) q (lit≤ tt) (tp-rel .near .le)) (high (num t) (den t) (num r * inner (val r) .top) (den r * inner (val r) .bot) (entry .high) (part-most (val r) r-one))
+    where
+      high : (n d p q : ℕ) → n ≤ 2 * d → p * 1 ≤ 3 * q → n * p ≤ 6 * (d * q)
+      high n d p q h k = omega (arith, mul-le-mul h k)
+
+      cancel : (n d t b : ℕ) → 0 < b → n * b ≤ 2 * (t * d) → t ≤ 6 * b → n ≤ 12 * d
+      cancel n d t b B h k = le-of-mul-le-mul-right {k = b} (omega (arith, mul-le-mul-right d k)) B
 
   sum-rel : Rel 14 (add binary64 t (mul binary64 t (polynomialOf r))) (val t ⊞ val t ⊠ (val r ⊠ inner (val r)))
   sum-rel =

@@ -11,8 +11,8 @@ use lib.Ieee.Positive.{positive-of-value, value→cross}
 use Rattle.numerics.specs.Frac.{Frac, close-same}
 use Rattle.numerics.specs.Round.{val, Rel}
 use Rattle.numerics.specs.Patterns.{normal-value, rescale}
-use Rattle.elementary_exp.specs.Exp.{scaleOf}
 use Rattle.elementary_exp.proofs.ExpConstants.{zeroPower}
+use Rattle.elementary_distance.proofs.ExpEarlier.{scaleOf}
 
 field-value : (f : ℕ) → 0 < f → f ≤ 2046 → HasValue (ofBits binary64 (f * 2 ^ 52)) false (2 ^ f) (2 ^ 1023)
 field-value f p h =

@@ -11,7 +11,7 @@ use Rattle.numerics.specs.Law.{times, power, above-power, below-power}
 use Rattle.numerics.specs.Tail.{rho, under-rho, tail-under, power-top, power-bot, pow-slack, power-two, rho⁻}
 use Rattle.numerics.specs.Bound.{Bound, bound-mul, bound-arg}
 use Rattle.elementary_exp.proofs.ExpConstants.{step, two⁺}
-use Rattle.elementary_exp.specs.ExpTable.{tableEntry}
+use Rattle.elementary_exp.proofs.ExpEntries.{tableEntry}
 use Rattle.elementary_exp.proofs.ExpTableGood.{entry-good}
 
 -- ---- 64 steps: e ^ (64 * L) is 2, to 2 ^ -87

@@ -4,9 +4,11 @@ pub mod ExpParts
 pub mod ExpRemainder
 pub mod ExpErrors
 pub mod ExpGap
+pub mod ExpEarlier
 pub mod ExpPower
 pub mod ExpSum
 pub mod ExpFloat
+pub mod ExpKept
 pub mod ExpBound
 pub mod ExpDistance
 -- ---- ln

@@ -1,4 +1,4 @@
--- The distances at the figures of specs/Distances.antt, and document 01's figures as their consequences. Assumes nothing.
+-- The distances at the figures of specs/Distances.antt, and document 01's figures as their consequences; and what request 04 kept. Assumes nothing.
 use mathlib.Core.Path.{_≡_, refl}
 use mathlib.Core.Logic.{_↔_, _⊎_, inl, inr}
 use mathlib.Core.Bool.{true, false}
@@ -24,12 +24,18 @@ use Rattle.elementary_ln.specs.Ln.{lnOf}
 use Rattle.elementary.specs.Power.{powfOf}
 use Rattle.elementary.proofs.Laws.{powf-zero}
 use Rattle.elementary_distance.specs.Distances.{ExpDistance, LnDistance, SqrtDistance, PowerDistance, TablePowerDistance, WithinOfPower, expBits, lnBits, powfBits}
+use Rattle.elementary_distance.proofs.ExpEarlier.{earlierExpOf}
+use Rattle.elementary_distance.proofs.ExpKept as kept
 use Rattle.elementary_distance.proofs.ExpDistance as exp
 use Rattle.elementary_distance.proofs.LnDistance as ln
 use Rattle.elementary_distance.proofs.SqrtNearest as sqrt
 use Rattle.elementary_distance.proofs.PowfDistance.{powf-distance, one-exact}
 
 -- ---- exp
+-- "Every answer of exp keeps its bits" (request 04), whatever x is: those of the steps before it
+pub exp-kept : (x : Float) → expOf x ≡ earlierExpOf x
+exp-kept = kept.exp-kept
+
 pub exp-distance : ExpDistance expBits
 exp-distance = exp.exp-distance
 

@@ -4,7 +4,7 @@ use mathlib.Core.Bool.{true, false, _&&_}
 use lib.Dec.{T}
 use lib.Ieee.{Float, nan, inf, binary64, lt, eq, ne, neg, ofBits, fits}
 use lib.Ieee.Bits.{ofBits-fits}
-use lib.Ieee.Fits.{mul-fits}
+use lib.Ieee.Fits.{add-fits}
 use lib.Ieee.Positive.{positive}
 use Rattle.numerics.specs.Double.{+0, one}
 use Rattle.numerics.specs.Held.{pick-held}
@@ -49,7 +49,7 @@ exp-minus-infinity = refl
 -- whatever x is, the answer is a double
 within-double : (x : Float) → T (fits binary64 (withinOf x))
 unfolding withinOf
-within-double x = mul-fits binary64 _ _
+within-double x = add-fits binary64 _ _
 
 pub exp-double : (x : Float) → T (fits binary64 (expOf x))
 unfolding expOf fits

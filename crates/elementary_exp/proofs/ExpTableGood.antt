@@ -1,11 +1,7 @@
--- Each entry of the exponential's table is e ^ (j * L) to 2 roundings, L the step: by one computed test over the table, and the law that turns the test into the rule. Assumes nothing.
-use mathlib.Core.Path.{_≡_, refl, sym, subst}
-use mathlib.Core.List.{List, [], _∷_}
-use Prim.Native.Nat.{ℕ, zero, suc, _+_, _*_, _≤_, _<_}
-use native.Mathlib.Omega.{arith}
-use mathlib.Core.Bool.{Bool, true, _&&_}
+-- Each entry of the exponential's table is e ^ (j * L) to 2 roundings, L the step: by one computed test over the table. Assumes nothing.
+use Prim.Native.Nat.{ℕ, _*_, _≤_, _<_}
+use mathlib.Core.Bool.{Bool, _&&_}
 use lib.Dec.{T, leb, leb→le}
-use lib.ListN.{getD, length}
 use lib.Ieee.{Float, ofBits}
 use lib.Ieee.Fits.{and-l, and-r}
 use lib.Ieee.Positive.{num, den, positive}
@@ -16,8 +12,10 @@ use Rattle.numerics.specs.Series.{sumTop, sumBot, S, U, above-by, below-by}
 use Rattle.numerics.specs.Law.{times}
 use Rattle.numerics.specs.Tail.{rho, rho⁻}
 use Rattle.numerics.specs.Bound.{Bound}
+use Rattle.numerics.specs.Table.{each, each-entry}
 use Rattle.elementary_exp.proofs.ExpConstants.{step}
-use Rattle.elementary_exp.specs.ExpTable.{twoToSixtyFourths, tableEntry}
+use Rattle.elementary_exp.specs.ExpTable.{twoToSixtyFourths}
+use Rattle.elementary_exp.proofs.ExpEntries.{tableEntry, entries}
 
 -- t is e ^ (j * step) to 2 roundings, and from 1 to 2
 pub record Entry (j : ℕ) (t : Float) : Type 0 where
@@ -63,33 +61,14 @@ entry-tested j t h =
     }
 
 -- ---- the whole table
-table-test : ℕ → List ℕ → Bool
+pattern-test : ℕ → ℕ → Bool
 unfolding entry-test
-table-test j [] = true
-table-test j (p ∷ ps) = entry-test j (bits p) && table-test (suc j) ps
+pattern-test j p = entry-test j (bits p)
 
-none : (i : ℕ) → i < 0 → ⊥
-none i h = omega arith
-
-table-tested : (ps : List ℕ) (j i : ℕ) → T (table-test j ps) → i < length ps → Entry (j + i) (bits (getD ps i 0))
-unfolding table-test
-table-tested [] j i t h = absurd (none i h)
-table-tested (p ∷ ps) j zero t h = subst (λ (k : ℕ). Entry k (bits p)) (sym (native.Mathlib.Nat.add-zero j)) (entry-tested j (bits p) (and-l (entry-test j (bits p)) (table-test (suc j) ps) t))
-table-tested (p ∷ ps) j (suc i) t h =
-    subst (λ (k : ℕ). Entry k (bits (getD ps i 0))) (shape j i)
-    (table-tested ps (suc j) i (and-r (entry-test j (bits p)) (table-test (suc j) ps) t) (native.Mathlib.Nat.le-of-suc-le-suc h))
-  where
-    shape : (j i : ℕ) → suc j + i ≡ j + suc i
-    shape j i = omega arith
-
-passes : T (table-test 0 twoToSixtyFourths)
-unfolding table-test twoToSixtyFourths ofBits sumTop sumBot small big
+passes : T (each pattern-test 0 twoToSixtyFourths)
+unfolding each pattern-test twoToSixtyFourths ofBits sumTop sumBot small big
 passes = tt
 
-long : length twoToSixtyFourths ≡ 64
-unfolding twoToSixtyFourths
-long = refl
-
 pub entry-good : (j : ℕ) → j < 64 → Entry j (tableEntry j)
-unfolding tableEntry
-entry-good j h = subst (λ (k : ℕ). Entry k (bits (getD twoToSixtyFourths j 0))) (native.Mathlib.Nat.zero-add j) (table-tested twoToSixtyFourths 0 j passes (rw long h))
+unfolding pattern-test tableEntry
+entry-good j h = entry-tested j (tableEntry j) (each-entry pattern-test twoToSixtyFourths j passes (rw entries h))

@@ -1,9 +1,9 @@
 -- The steps of exp: "written down once in specs/, fix the bits of each answer" (document 01). Each ⊕ ⊖ ⊗ rounds once.
 use mathlib.Core.Bool.{false, _&&_}
-use Prim.Native.Nat.{ℕ, _-_, _*_, _/_, _%_}
+use Prim.Native.Nat.{ℕ, _+_, _*_, _/_, _%_}
 use lib.Ieee.{Float, nan, inf, binary64, neg, lt, ne, toBits}
 use Rattle.numerics.specs.Double.{_⊕_, _⊖_, _⊗_, bits, +0, one, pick}
-use Rattle.elementary_exp.specs.ExpTable.{tableEntry}
+use Rattle.elementary_exp.specs.ExpTable.{entryPattern}
 
 -- the double nearest 64 / ln 2
 abbrev pub stepsPerUnit : Float
@@ -60,16 +60,16 @@ over720 = bits 0x3f56_c16c_16c1_6c17
 unfoldable pub polynomialOf : Float → Float
 polynomialOf r = r ⊗ (one ⊕ r ⊗ (over2 ⊕ r ⊗ (over6 ⊕ r ⊗ (over24 ⊕ r ⊗ (over120 ⊕ r ⊗ over720)))))
 
--- 2 ^ (n − 2048) for 1025 < n < 3072, by its exponent's field
-unfoldable pub scaleOf : ℕ → Float
-scaleOf n = bits ((n - 1025) * 0x10_0000_0000_0000)
+-- "form the exponent field by one addition" (request 04): 2 ^ (j / 64) × 2 ^ (n − 2048) for 1025 < n < 3072, n being added to the first twelve digits of entry j's pattern
+unfoldable pub scaledEntry : ℕ → ℕ → Float
+scaledEntry j n = bits ((entryPattern j + n * 0x10_0000_0000_0000) % 0x1_0000_0000_0000_0000)
 
 -- what the tests of `expOf` leave: e ^ x by the steps above
 unfoldable pub withinOf : Float → Float
 withinOf x =
     let w = countedOf x in
-    let t = tableEntry (stepsOf w % 64) in
-    (t ⊕ t ⊗ polynomialOf (remainderOf x w)) ⊗ scaleOf (stepsOf w / 64)
+    let t = scaledEntry (stepsOf w % 64) (stepsOf w / 64) in
+    t ⊕ t ⊗ polynomialOf (remainderOf x w)
 
 -- 700.0, and 2 ^ −54, below which e ^ x rounds to 1
 abbrev pub most : Float

@@ -1,9 +1,7 @@
 -- The table of the exponential's reduction: for j from 0 to 63 the double nearest 2 ^ (j / 64), by its pattern.
 use mathlib.Core.List.{List, [], _∷_}
-use Prim.Native.Nat.{ℕ}
-use lib.Ieee.{Float}
+use Prim.Native.Nat.{ℕ, _+_, _*_}
 use lib.ListN.{getD}
-use Rattle.numerics.specs.Double.{bits}
 
 unfoldable pub twoToSixtyFourths : List ℕ
 twoToSixtyFourths =
@@ -17,6 +15,10 @@ twoToSixtyFourths =
     0x3ffd_5818_dcfb_a487 ∷ 0x3ffd_a9e6_03db_3285 ∷ 0x3ffd_fc97_337b_9b5f ∷ 0x3ffe_502e_e78b_3ff6 ∷ 0x3ffe_a4af_a2a4_90da ∷ 0x3ffe_fa1b_ee61_5a27 ∷ 0x3fff_5076_5b6e_4540 ∷ 0x3fff_a7c1_819e_90d8 ∷
     []
 
-unfoldable pub tableEntry : ℕ → Float
+-- a pattern's first twelve digits are its sign and its exponent's field: added there, this and the 2048 at which a count of powers begins make 4096, which falls off
+abbrev pub fieldConstant : ℕ
+fieldConstant = 2048
+
+unfoldable pub entryPattern : ℕ → ℕ
 unfolding twoToSixtyFourths
-tableEntry j = bits (getD twoToSixtyFourths j 0)
+entryPattern j = getD twoToSixtyFourths j 0 + fieldConstant * 0x10_0000_0000_0000

@@ -1,12 +1,10 @@
 -- The table of ln: e to entry i is 1 + i / 128 to one rounding, and the entry is from 0 to 0.69 with few digits. One computed test serves all entries.
 -- Assumes nothing.
-use mathlib.Core.Path.{_≡_, refl, sym, _∙_, subst}
-use mathlib.Core.List.{List, [], _∷_}
-use mathlib.Core.Bool.{Bool, true, _&&_}
-use Prim.Native.Nat.{ℕ, zero, suc, _+_, _*_, _^_, _≤_, _<_}
-use native.Mathlib.Nat.{add-zero, add-suc, suc-add, zero-add, le-of-suc-le-suc, not-suc-le-zero}
+use mathlib.Core.Path.{_≡_, refl}
+use mathlib.Core.Bool.{Bool, _&&_}
+use Prim.Native.Nat.{ℕ, _+_, _*_, _^_, _≤_, _<_}
 use lib.Dec.{T, leb, leb→le, lit≤}
-use lib.ListN.{length, getD}
+use lib.ListN.{length}
 use lib.Ieee.{Float, binary64, ofBits}
 use lib.Ieee.Fits.{and-l, and-r}
 use lib.Ieee.Positive.{num, den}
@@ -15,6 +13,7 @@ use Rattle.numerics.specs.Series.{sumTop, sumBot, S, U, Above, Below, above-by}
 use Rattle.numerics.specs.Round.{val}
 use Rattle.numerics.specs.Tail.{rho, rho⁻}
 use Rattle.numerics.specs.Nonneg.{nonneg}
+use Rattle.numerics.specs.Table.{each, each-entry}
 use Rattle.elementary_ln.specs.LnTable.{logTable}
 use Rattle.elementary_ln.specs.Ln.{logNode}
 
@@ -63,22 +62,12 @@ entry-tested v c t =
 abbrev pub node : ℕ → Frac
 node i = record { top = 128 + i; bot = 128; good = lit≤ tt }
 
-unfoldable table-test : ℕ → List ℕ → Bool
+node-test : ℕ → ℕ → Bool
 unfolding entry-test ofBits
-table-test i [] = true
-table-test i (b ∷ bs) = entry-test (ofBits binary64 b) (node i) && table-test (suc i) bs
+node-test i b = entry-test (ofBits binary64 b) (node i)
 
-table-tested : (i : ℕ) (bs : List ℕ) → T (table-test i bs) → (j : ℕ) → j < length bs → LogEntry (ofBits binary64 (getD bs j 0)) (node (i + j))
-unfolding table-test
-table-tested i [] t j h = absurd (not-suc-le-zero h)
-table-tested i (b ∷ bs) t zero h =
-    subst (λ (n : ℕ). LogEntry (ofBits binary64 b) (node n)) (sym (add-zero i)) (entry-tested (ofBits binary64 b) (node i) (and-l (entry-test (ofBits binary64 b) (node i)) (table-test (suc i) bs) t))
-table-tested i (b ∷ bs) t (suc j) h =
-    subst (λ (n : ℕ). LogEntry (ofBits binary64 (getD bs j 0)) (node n)) (suc-add i j ∙ sym (add-suc i j))
-    (table-tested (suc i) bs (and-r (entry-test (ofBits binary64 b) (node i)) (table-test (suc i) bs) t) j (le-of-suc-le-suc h))
-
-table-ok : T (table-test 0 logTable)
-unfolding table-test logTable small big
+table-ok : T (each node-test 0 logTable)
+unfolding each node-test logTable small big
 table-ok = tt
 
 table-size : length logTable ≡ 128
@@ -87,5 +76,5 @@ table-size = refl
 
 -- entry i is ln (1 + i / 128)
 pub entry-log : (i : ℕ) → i < 128 → LogEntry (logNode i) (node i)
-unfolding logNode
-entry-log i h = subst (λ (n : ℕ). LogEntry (ofBits binary64 (getD logTable i 0)) (node n)) (zero-add i) (table-tested 0 logTable table-ok i (subst (λ (n : ℕ). i < n) (sym table-size) h))
+unfolding node-test logNode
+entry-log i h = entry-tested (logNode i) (node i) (each-entry node-test logTable i table-ok (rw table-size h))

@@ -18,8 +18,9 @@ pub mod Iterate
 -- what loops keep, and what grows by one a turn
 pub mod Growing
 pub mod Fill
--- what the last arm of a match on a number knows
+-- what the last arm of a match on a number knows; a rule of a table's entries by one test
 pub mod Match
+pub mod Table
 -- laws of tests
 pub mod Tests
 -- the value of a test in a definition, from how a call's result was tested
@@ -127,6 +128,8 @@ pub mod ZeroDifference
 pub mod Quotient
 -- doubles above zero as whole numbers of the smallest, and the gap between two of them
 pub mod Spacing
+-- a power of two goes through a rounding
+pub mod Scaled
 -- sums, differences and parts of them, each rounded once
 pub mod SpacingRounded
 -- what rounding leaves as it is, and the grid that it rounds to

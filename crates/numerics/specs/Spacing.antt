@@ -1,7 +1,7 @@
 -- Doubles above zero as whole numbers of 2 ^ -1074, and the gap between two of them: a double above x is above it by at least one part in 2 ^ 53 of x. Assumes nothing.
 use mathlib.Core.Path.{_≡_, refl, sym, ap, _∙_, subst}
 use Prim.Native.Nat.{ℕ, zero, suc, _+_, _-_, _*_, _/_, _%_, _^_, _≤_, _<_}
-use native.Mathlib.Nat.{le-of-lt, lt-of-not-le, not-le-of-lt, lt-trans, mul-one, mul-assoc, mul-le-mul-right, lt-of-mul-lt-mul-right, lt-of-lt-of-le, add-sub-of-le, sub-add-cancel, lt-irrefl, mul-div-cancel}
+use native.Mathlib.Nat.{le-of-lt, le-of-eq, le-antisymm, lt-of-not-le, not-le-of-lt, lt-trans, mul-one, mul-assoc, mul-le-mul-right, lt-of-mul-lt-mul-right, lt-of-lt-of-le, add-sub-of-le, sub-add-cancel, lt-irrefl, mul-div-cancel}
 use native.Mathlib.Omega.{arith}
 use mathlib.Core.Bool.{Bool, true, false, not, _&&_}
 use lib.IntN.{ℤ, pos, negsuc}
@@ -156,3 +156,7 @@ pattern-of (fin false m e) g = ap pattern (ap (λ (z : ℕ). z / down e) (counte
 pub same : (x y : Float) → Good x → Good y → count x ≡ count y → x ≡ y
 same x y g h e =
     sym (ofBits-toBits binary64 x (g .held)) ∙ ap (ofBits binary64) (pattern-of x g ∙ ap pattern e ∙ sym (pattern-of y h)) ∙ ofBits-toBits binary64 y (h .held)
+
+-- and so are those of one value
+pub same-value : (x y : Float) → Good x → Good y → num x * den y ≡ num y * den x → x ≡ y
+same-value x y g h e = same x y g h (le-antisymm (le→count x y g h (cross→le x y (g .above) (h .above) (le-of-eq e))) (le→count y x h g (cross→le y x (h .above) (g .above) (le-of-eq (sym e)))))

@@ -11,8 +11,12 @@ float-to-bits-u : tie.Need-float-to-bits-u
 unfolding countedOf
 float-to-bits-u c = counted-number (c .args .x) (c .pre)
 
-table-entry-requires : tie.Need-table-entry-requires
-table-entry-requires c κs = search needs
+scaled-entry-requires : tie.Need-scaled-entry-requires
+unfolding countedOf stepsOf
+scaled-entry-requires c κs =
+    let t = steps-reach (c .args .x) (c .pre) in
+    let p = powers (stepsOf (countedOf (c .args .x))) (t .some) (t .few) in
+    (omega arith, (omega arith, omega arith))
 
 remainder-requires : tie.Need-remainder-requires
 remainder-requires c κs = search needs
@@ -20,17 +24,9 @@ remainder-requires c κs = search needs
 polynomial-requires : tie.Need-polynomial-requires
 polynomial-requires c κs = search needs
 
-power-requires : tie.Need-power-requires
-unfolding countedOf stepsOf
-power-requires c κs =
-    let s = c .before .before .before in
-    let t = steps-reach (s .args .x) (s .pre) in
-    let p = powers (stepsOf (countedOf (s .args .x))) (t .some) (t .few) in
-    (omega arith, omega arith)
-
 returns : tie.Need-returns
 unfolding withinOf countedOf stepsOf
 returns c = cc
 
 pub within-spec : {M : Type 1} → statement M
-within-spec = tie.close (tie.spec float-to-bits-u table-entry-requires remainder-requires polynomial-requires power-requires returns)
+within-spec = tie.close (tie.spec float-to-bits-u scaled-entry-requires remainder-requires polynomial-requires returns)

@@ -1,26 +1,20 @@
--- `elementary_exp::exp::table_entry` meets its contract: each arm gives its entry of the table. Assumes nothing.
+-- `elementary_exp::exp::entry_pattern` meets its contract: each arm gives its entry of the table. Assumes nothing.
 use mathlib.Core.Path.{_≡_, refl}
 use Prim.Native.Nat.{ℕ, suc, _<_}
-use lib.ListN.{getD}
-use lib.Ieee.{binary64, ofBits}
-use Rattle.elementary_exp.specs.ExpTable.{twoToSixtyFourths, tableEntry}
-use Rattle.numerics.specs.Match.{Missed, arm, last-arm}
-use Rattle.elementary_exp.proofs.exp.table_entry.Statement.{statement}
-use Rattle.elementary_exp.proofs.exp.table_entry.Tie as tie
+use Rattle.elementary_exp.specs.ExpTable.{twoToSixtyFourths, entryPattern}
+use Rattle.numerics.specs.Match.{Missed, arm-of, last-arm-of}
+use Rattle.elementary_exp.proofs.exp.entry_pattern.Statement.{statement}
+use Rattle.elementary_exp.proofs.exp.entry_pattern.Tie as tie
 
-entry-is : (i : ℕ) → ofBits binary64 (getD twoToSixtyFourths i 0) ≡ tableEntry i
-unfolding tableEntry
-entry-is i = refl
+entry-arm : (i j p : ℕ) → i ≡ j → entryPattern j ≡ p → p ≡ entryPattern i
+entry-arm = arm-of entryPattern
 
-entry-arm : (i j p : ℕ) → i ≡ j → getD twoToSixtyFourths j 0 ≡ p → ofBits binary64 p ≡ tableEntry i
-entry-arm = arm twoToSixtyFourths tableEntry entry-is
+last-entry : (n i p : ℕ) → Missed n i → i < suc n → entryPattern n ≡ p → p ≡ entryPattern i
+last-entry = last-arm-of entryPattern
 
-last-entry : (n i p : ℕ) → Missed n i → i < suc n → getD twoToSixtyFourths n 0 ≡ p → ofBits binary64 p ≡ tableEntry i
-last-entry = last-arm twoToSixtyFourths tableEntry entry-is
-
-pub table-entry-spec : {M : Type 1} → statement M
-unfolding twoToSixtyFourths
-table-entry-spec =
+pub entry-pattern-spec : {M : Type 1} → statement M
+unfolding entryPattern twoToSixtyFourths
+entry-pattern-spec =
     tie.close
     (tie.spec
     (λ c. entry-arm (c .before .args .j) 0 _ (c .match .keys1) refl)
