@@ -1,4 +1,6 @@
 // Lines of two decimal numbers, stored into lent bytes.
+#![tactic(auto)]
+
 ghost use Rattle.std.specs.Prelude.{◌≡◌, ◌+◌, ◌-◌, ◌*◌, ◌≤◌, length, get_or};
 ghost use Rattle.std.proofs.lemmas.List.Edits.{sets};
 ghost use Rattle.decimal_lines.specs.Line.{decimal, line_from, count_line, count_lines};

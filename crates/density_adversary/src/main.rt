@@ -3,7 +3,7 @@
 use gerg_search::{Bracket, Options, Sample, Search, Stage, Step};
 
 // How a driven search ended; number 0 is an acceptance, 255 a search that was not over after 1000 steps.
-#[derive(Drop)]
+#[derive(Clone, Copy)]
 struct Ended {
     number: u8,
     trials: usize,

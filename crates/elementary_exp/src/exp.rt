@@ -5,6 +5,7 @@ ghost use Rattle.elementary_exp.specs.Exp.{polynomial_of, remainder_of, scaled_e
 ghost use Rattle.elementary_exp.specs.Range.{InRange};
 
 // The pattern of 2 ^ (j / 64) with 2048 added to its first twelve digits, sign and exponent. The constants of a match stand in constant memory, an array's would be copied at each call.
+#[tactic(auto, unfolding(crate::specs::ExpTable::entry_pattern, crate::specs::ExpTable::two_to_sixty_fourths))]
 fn entry_pattern(j: u64) -> u64
     requires { j < 64 }
     ensures { result ≡ entry_pattern j }

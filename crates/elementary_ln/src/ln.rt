@@ -3,6 +3,7 @@ ghost use Rattle.std.specs.Prelude.{◌≡◌, ◌<◌, ◌≤◌, ◌^◌};
 ghost use Rattle.elementary_ln.specs.Ln.{log_node, ln_ratio, ln_significand, ln_parts, ln_pattern, ln_of};
 
 // The double nearest ln (1 + i / 128), read from constant memory.
+#[tactic(auto, unfolding(crate::specs::Ln::log_node, crate::specs::LnTable::log_table))]
 fn log_node(i: u64) -> f64
     requires { i < 128 }
     ensures { result ≡ log_node i }

@@ -1,3 +1,4 @@
 // The square root, as the nearest double.
+#![tactic(auto)]
 
 pub mod sqrt;

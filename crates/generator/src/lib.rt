@@ -1,22 +1,24 @@
 // A generator of states that anyone can make again from its seed: a word of 64 bits that each draw changes by shifts, and a counter that is added to it.
+#![tactic(auto)]
+
 ghost use Rattle.std.specs.Prelude.{◌≡◌, ◌*◌};
 ghost use Rattle.generator.specs.Generator as is;
 
-#[derive(Drop)]
+#[derive(Clone, Copy)]
 pub struct Generator {
     pub word: u64,
     pub counter: u64,
 }
 
 // A temperature (K) and a molar density (mol/m³).
-#[derive(Drop)]
+#[derive(Clone, Copy)]
 pub struct State {
     pub temperature: f64,
     pub density: f64,
 }
 
 // A state and the generator after its two draws.
-#[derive(Drop)]
+#[derive(Clone, Copy)]
 pub struct DrawnState {
     pub state: State,
     pub generator: Generator,

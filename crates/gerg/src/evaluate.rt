@@ -16,7 +16,7 @@ use gerg_tables::numbers::is_finite;
 // The gas constant of the equation, J/(mol K).
 pub const GERG_GAS_CONSTANT: f64 = 8.314472;
 
-#[derive(Drop)]
+#[derive(Clone, Copy)]
 pub enum EvaluateAnswer {
     State(GergState),
     // with document 01's number
@@ -85,7 +85,7 @@ fn speed_of_sound(cp: f64, cv: f64, stiffness: f64, mass: f64) -> f64
 }
 
 // What several properties are made of.
-#[derive(Drop)]
+#[derive(Clone, Copy)]
 pub struct Parts {
     pub pressure: f64,
     pub stiffness: f64,

@@ -11,7 +11,7 @@ use gerg_reducing::GergModel;
 use gerg_tables::numbers::is_finite;
 use gerg_terms::sums;
 
-#[derive(Drop)]
+#[derive(Clone, Copy)]
 pub enum HelmholtzAnswer {
     Derivatives(GergDerivatives),
     // with document 01's number

@@ -1,11 +1,13 @@
 // GERG-2008: the Helmholtz derivatives of a mixture, and its properties.
+#![tactic(auto)]
+
 pub mod evaluate;
 pub mod helmholtz;
 
 use gerg_derivatives::derivatives::GergDerivatives;
 
 // The ends of the range in which the equation is used.
-#[derive(Drop)]
+#[derive(Clone, Copy)]
 pub struct Range {
     // K
     pub temperature_low: f64,
@@ -15,7 +17,7 @@ pub struct Range {
 }
 
 // Homogeneous state in molar SI units.
-#[derive(Drop)]
+#[derive(Clone, Copy)]
 pub struct GergState {
     pub temperature_k: f64,
     // mol/m³

@@ -9,7 +9,7 @@ use gerg_root_list::RootsAnswer;
 use gerg_saturation::{PureSaturation, SaturationAnswer};
 
 // A state, or document 01's number and value.
-#[derive(Drop)]
+#[derive(Clone, Copy)]
 pub enum PropertiesAnswer {
     State(GergState),
     Refused { number: u8, value: usize },

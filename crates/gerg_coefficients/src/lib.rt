@@ -1,4 +1,6 @@
 // The coefficient file and its tables.
+#![tactic(auto)]
+
 ghost use Rattle.std.specs.Prelude.{◌≡◌, replicate};
 ghost use Rattle.numerics.specs.Double.{+0};
 ghost use Rattle.gerg_coefficients.specs.Answer as Answers;
@@ -11,7 +13,7 @@ use gerg_file::{File, read_layout};
 use gerg_tables::{Tables, check};
 
 // What a coefficient file is answered with.
-#[derive(Drop)]
+#[derive(Clone, Copy)]
 pub enum Answer {
     // the file's length
     Accepted(usize),
@@ -22,7 +24,7 @@ pub enum Answer {
 }
 
 // A file's answer and its tables, which are zeros where the file is `Refused`.
-#[derive(Drop)]
+#[derive(Clone, Copy)]
 pub struct TableFile {
     pub answer: Answer,
     pub tables: Tables,

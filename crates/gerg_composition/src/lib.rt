@@ -1,9 +1,11 @@
 // GERG-2008: the composition derivative of the residual Helmholtz energy.
+#![tactic(auto)]
+
 pub mod composition;
 pub mod powers;
 
 // The reduced density, and the inverse reduced temperature with its logarithm.
-#[derive(Drop)]
+#[derive(Clone, Copy)]
 pub struct Point {
     pub delta: f64,
     pub tau: f64,
@@ -11,7 +13,7 @@ pub struct Point {
 }
 
 // The places of two components, from 0, and their fractions.
-#[derive(Drop)]
+#[derive(Clone, Copy)]
 pub struct Pair {
     pub i: usize,
     pub j: usize,
@@ -20,7 +22,7 @@ pub struct Pair {
 }
 
 // The sums of the two components of a pair.
-#[derive(Drop)]
+#[derive(Clone, Copy)]
 pub struct Both {
     pub first: f64,
     pub second: f64,

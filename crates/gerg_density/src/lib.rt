@@ -1,5 +1,6 @@
 // The density search of gerg_density.rs: a pressure is inverted within a given bracket of densities. One step of the search takes the
 // verdict of the trial at one density and answers what to do next; all that a search knows is in one struct by value.
+#![tactic(auto)]
 
 pub mod density;
 pub mod trial;
@@ -8,7 +9,7 @@ use gerg::GergState;
 use gerg_search::Bracket;
 
 // An accepted density: its state, the state's scaled pressure residual, the interior trials, the given bracket and the last one.
-#[derive(Drop)]
+#[derive(Clone, Copy)]
 pub struct DensityResult {
     pub state: GergState,
     pub residual: f64,
@@ -18,7 +19,7 @@ pub struct DensityResult {
 }
 
 // A refusal has document 01's number and value.
-#[derive(Drop)]
+#[derive(Clone, Copy)]
 pub enum DensityAnswer {
     Accepted(DensityResult),
     Refused { number: u8, value: usize },

@@ -3,7 +3,7 @@ ghost use Rattle.std.specs.Prelude.{◌≡◌};
 ghost use Rattle.gerg_derivatives.specs.Derivatives.{term_of};
 
 // Dimensionless Helmholtz derivatives scaled by powers of delta and tau; d and t denote differentiation by delta and tau.
-#[derive(Drop)]
+#[derive(Clone, Copy)]
 pub struct GergDerivatives {
     pub ar: f64,
     pub ar_d: f64,

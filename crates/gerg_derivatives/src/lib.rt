@@ -1,11 +1,12 @@
 // The nine derivatives, what a term adds to them, and the powers that the terms at one density share.
+#![tactic(auto)]
 
 pub mod derivatives;
 pub mod parts;
 pub mod powers;
 
 // A temperature and a molar density of a mixture, and what every term takes from them.
-#[derive(Drop)]
+#[derive(Clone, Copy)]
 pub struct Point {
     // K
     pub temperature: f64,

@@ -6,7 +6,7 @@ ghost use Rattle.gerg_derivatives.specs.Parts as parts;
 use crate::derivatives::GergDerivatives;
 
 // c delta², e delta, and the exponential of their sum with g.
-#[derive(Drop)]
+#[derive(Clone, Copy)]
 pub struct Exponent {
     pub c: f64,
     pub e: f64,
@@ -14,7 +14,7 @@ pub struct Exponent {
 }
 
 // A term's numbers, its powers worked out.
-#[derive(Drop)]
+#[derive(Clone, Copy)]
 pub struct Departed {
     pub factor: f64,
     pub n: f64,
@@ -35,7 +35,7 @@ pub fn departed_term(a: GergDerivatives, p: Departed) -> GergDerivatives
 }
 
 // A term's numbers, its powers worked out.
-#[derive(Drop)]
+#[derive(Clone, Copy)]
 pub struct Damped {
     pub x: f64,
     pub n: f64,

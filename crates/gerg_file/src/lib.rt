@@ -1,4 +1,6 @@
 // Row 1: the bytes of a coefficient file and the walk over its records.
+#![tactic(auto)]
+
 ghost use Rattle.std.specs.Prelude.{◌≡◌};
 ghost use Rattle.gerg_file.specs.File.{file_of};
 
@@ -10,7 +12,7 @@ mod walk;
 use walk::Walk;
 
 // Where the sections of a well-formed file begin.
-#[derive(Drop)]
+#[derive(Clone, Copy)]
 pub struct Layout {
     // the first term of a component
     pub terms: usize,
@@ -25,7 +27,7 @@ pub struct Layout {
 }
 
 // What a file is: the offset of its first bad record or of the first byte over, or where its sections begin.
-#[derive(Drop)]
+#[derive(Clone, Copy)]
 pub enum File {
     Malformed(usize),
     WellFormed(Layout),

@@ -9,7 +9,7 @@ use crate::kinds::{
 use crate::records::{counted_run, groups, pair_rows};
 
 // Where a walk over records has come: past the last, or to the start of the first bad one.
-#[derive(Drop)]
+#[derive(Clone, Copy)]
 pub enum Walk {
     To(usize),
     Bad(usize),

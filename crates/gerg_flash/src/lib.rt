@@ -7,7 +7,7 @@ pub mod settle;
 use gerg::GergState;
 
 // A root of a scan, and the first and the last point with stiffness ≤ 0, between which it is dropped.
-#[derive(Drop)]
+#[derive(Clone, Copy)]
 pub struct Candidate {
     pub density: f64,
     pub residual: f64,
@@ -16,7 +16,7 @@ pub struct Candidate {
 }
 
 // A root's density and the state there.
-#[derive(Drop)]
+#[derive(Clone, Copy)]
 pub struct RootState {
     pub density: f64,
     pub state: GergState,

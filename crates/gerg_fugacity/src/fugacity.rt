@@ -14,7 +14,7 @@ use gerg_model::mixture;
 use gerg_reducing::GergModel;
 use gerg_tables::numbers;
 
-#[derive(Drop)]
+#[derive(Clone, Copy)]
 pub enum FugacityCheck {
     Sound,
     // the refusal's number and value

@@ -1,2 +1,4 @@
 // GERG-2008: the fugacity coefficients of a mixture.
+#![tactic(auto)]
+
 pub mod fugacity;

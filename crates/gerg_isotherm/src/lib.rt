@@ -1,8 +1,10 @@
 // GERG-2008: what the Helmholtz derivatives take from the temperature alone.
+#![tactic(auto)]
+
 pub mod isotherm;
 
 // A temperature and the inverse reduced temperature of a mixture at it, with their logarithms.
-#[derive(Drop)]
+#[derive(Clone, Copy)]
 pub struct Temperature {
     // K
     pub t: f64,

@@ -9,7 +9,7 @@ ghost use Rattle.gerg_model.specs.Mixture as mix;
 use gerg_reducing::{GergModel, reducing};
 use gerg_tables::{named, numbers};
 
-#[derive(Drop)]
+#[derive(Clone, Copy)]
 pub enum MixtureCheck {
     Sound,
     // the refusal's number and value

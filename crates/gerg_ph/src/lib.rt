@@ -9,7 +9,7 @@ use gerg_reducing::GergModel;
 
 // What stays while temperatures are tried: the model, its range, the place in the list of the one positive fraction, and the pressure in
 // Pa.
-#[derive(Drop)]
+#[derive(Clone, Copy)]
 pub struct Isobar {
     pub model: GergModel,
     pub range: Range,

@@ -1,10 +1,11 @@
 // The reducing volume and temperature of a mixture, and their gradients by mole fraction.
+#![tactic(auto)]
 
 pub mod gradients;
 pub mod reducing;
 
 // A mixture of fixed composition, between the layers. Its reducing gradients, two rows of 21 numbers, are passed beside it.
-#[derive(Drop)]
+#[derive(Clone, Copy)]
 pub struct GergModel {
     // mole fraction of each of the 21 components
     pub fractions: [f64; 21],

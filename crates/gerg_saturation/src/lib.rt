@@ -1,4 +1,5 @@
 // What saturation takes from the roots at a temperature, and the halvings of an interval of temperatures: all of `gerg_ph` that looks at no isotherm.
+#![tactic(auto)]
 
 pub mod checks;
 pub mod coexistence;
@@ -6,7 +7,7 @@ pub mod ends;
 pub mod halving;
 
 // The numbers of `PureSaturation` in saturation.rs.
-#[derive(Drop)]
+#[derive(Clone, Copy)]
 pub struct PureSaturation {
     pub temperature_k: f64,
     pub pressure_pa: f64,
@@ -20,7 +21,7 @@ pub struct PureSaturation {
 }
 
 // The positive fractions of a list: how many, and the place of the last of them.
-#[derive(Drop)]
+#[derive(Clone, Copy)]
 pub struct Positive {
     pub count: usize,
     pub place: usize,
@@ -28,7 +29,7 @@ pub struct Positive {
 
 // The exterior roots at a temperature: the sign of the branch of a single one; of more, the difference of the fugacity coefficients of
 // liquid and vapor, and the saturation that they would be; or the number of the refusal.
-#[derive(Drop)]
+#[derive(Clone, Copy)]
 pub enum Sample {
     Single(f64),
     Coexisting(f64, PureSaturation),
@@ -36,7 +37,7 @@ pub enum Sample {
 }
 
 // What a sample says: accepted, apart by this difference, or the number of the refusal.
-#[derive(Drop)]
+#[derive(Clone, Copy)]
 pub enum Verdict {
     Accepted(PureSaturation),
     Apart(f64),
@@ -44,21 +45,21 @@ pub enum Verdict {
 }
 
 // The ends of an interval of temperatures, in K.
-#[derive(Drop)]
+#[derive(Clone, Copy)]
 pub struct Interval {
     pub lo: f64,
     pub hi: f64,
 }
 
 // What the caller chooses: the interval, and the most halvings of it.
-#[derive(Drop)]
+#[derive(Clone, Copy)]
 pub struct Options {
     pub interval: Interval,
     pub limit: usize,
 }
 
 // A saturation, none between the ends, or document 01's number and value.
-#[derive(Drop)]
+#[derive(Clone, Copy)]
 pub enum SaturationAnswer {
     Found(PureSaturation),
     NotEnclosed,

@@ -1,10 +1,11 @@
 // The steps of a scan over the grid and of the halving of a crossing, from the samples: all of a scan that looks at no isotherm.
+#![tactic(auto)]
 
 pub mod halve;
 pub mod scanning;
 
 // At a density: the pressure less the target, and the stiffness; or the number of the refusal.
-#[derive(Drop)]
+#[derive(Clone, Copy)]
 pub enum Sample {
     Value(f64, f64),
     Refused(u8),
@@ -12,7 +13,7 @@ pub enum Sample {
 
 // A crossing that is being halved: its ends, the point with the smallest residual so far, whether it has ended, and the number of the
 // refusal that ended it, or 0.
-#[derive(Drop)]
+#[derive(Clone, Copy)]
 pub struct Halving {
     pub lo: f64,
     pub hi: f64,
@@ -24,7 +25,7 @@ pub struct Halving {
 
 // A scan: the last grid point and the residual there, the first and the last point with stiffness ≤ 0, the number of roots found,
 // which lie in two arrays beside it, and the number of the refusal that ended the scan, or 0.
-#[derive(Drop)]
+#[derive(Clone, Copy)]
 pub struct Scan {
     pub previous: f64,
     pub left: f64,

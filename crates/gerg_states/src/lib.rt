@@ -8,7 +8,7 @@ pub mod counts;
 pub mod state;
 
 // The states `first`, `first` + 1, .. of a seed, `states` in number.
-#[derive(Drop)]
+#[derive(Clone, Copy)]
 pub struct Run {
     pub seed: u64,
     pub first: u32,

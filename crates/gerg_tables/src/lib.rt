@@ -1,11 +1,12 @@
 // The tables of coefficients: their numbers by name, and the check of row 2.
+#![tactic(auto)]
 
 pub mod check;
 pub mod named;
 pub mod numbers;
 
 // The tables of a coefficient file as two flat arrays.
-#[derive(Drop)]
+#[derive(Clone, Copy)]
 pub struct Tables {
     // Tc, MMiGERG; n0i, th0i; noik, toik; btij, bvij, gtij, gvij, fij; cijk, eijk, gijk, nijk, tijk
     pub doubles: [f64; 4086],

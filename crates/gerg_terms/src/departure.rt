@@ -20,13 +20,13 @@ use gerg_tables::named;
 use gerg_tables::numbers::wide;
 
 // The departure function of a pair, from 0, and the pair's factor x_i × x_j × fij.
-#[derive(Drop)]
+#[derive(Clone, Copy)]
 pub struct PairFunction {
     pub m: usize,
     pub factor: f64,
 }
 
-#[derive(Drop)]
+#[derive(Clone, Copy)]
 pub struct Pair {
     pub i: usize,
     pub j: usize,

@@ -1,4 +1,6 @@
 // Records of packed decimal, of which a chromatograph's list is made: kind 0x10, component, eight decimal digits in four bytes.
+#![tactic(auto)]
+
 ghost use Rattle.std.specs.Prelude.{◌≡◌, ◌+◌, ◌%◌, ◌≤◌, ◌<◌, length};
 ghost use Rattle.std.proofs.lemmas.List.Edits.{sets};
 ghost use Rattle.packed_decimal.specs.Record as is;

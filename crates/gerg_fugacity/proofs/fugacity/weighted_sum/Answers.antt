@@ -1,0 +1,16 @@
+use mathlib.Core.Path.{refl}
+use Prim.Native.Nat.{◌-◌}
+use Rattle.numerics.specs.Iterate.{iter_begins, iter_turn, iter_done}
+use Rattle.gerg_fugacity.specs.Fugacity.{weighted_sum}
+use native.Mathlib.Omega.{arith}
+use Rattle.gerg_fugacity.proofs.fugacity.weighted_sum.Goals as goal
+
+pub loop-i-init : goal.loop-i-init
+loop-i-init c = (omega arith, iter_begins _ _)
+
+pub loop-i-preserved : goal.loop-i-preserved
+loop-i-preserved c = (omega arith, iter_turn _ _ _ c.loop-i.invariant.1 refl)
+
+pub returns : goal.returns
+unfolding weighted_sum
+returns c = iter_done _ _ _ _ c.loop-i.invariant.1 (omega arith)

@@ -1,0 +1,19 @@
+use native.Mathlib.Omega.{arith}
+use Prim.Native.Nat.{◌-◌}
+use Rattle.numerics.specs.Iterate.{iter_begins, iter_turn, iter_done}
+use Rattle.gerg_isotherm.specs.Isotherm.{component_rows, all_rows}
+use Rattle.gerg_isotherm.proofs.isotherm.all_rows.Goals as goal
+
+pub loop-i-init : goal.loop-i-init
+loop-i-init c = (omega arith, iter_begins _ _)
+
+pub component_rows-requires : goal.component_rows-requires
+component_rows-requires c =
+    (omega arith, c.requires.0, c.requires.1)
+
+pub loop-i-preserved : goal.loop-i-preserved
+loop-i-preserved c = (omega arith, iter_turn _ _ _ c.loop-i.invariant.1 c.component_rows.ensures)
+
+pub returns : goal.returns
+unfolding all_rows
+returns c = iter_done _ _ _ _ c.loop-i.invariant.1 (omega arith)

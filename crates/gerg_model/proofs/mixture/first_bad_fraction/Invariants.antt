@@ -1,0 +1,12 @@
+-- `gerg_model::mixture::first_bad_fraction` meets its contract. The invariant: what is left from k on gives what the whole gives. Assumes nothing.
+use mathlib.Core.Path.{◌≡◌}
+use Prim.Native.Nat.{◌≤◌, ◌-◌}
+use lib.ListN.{length}
+use Rattle.gerg_model.specs.MixtureCheck.{first_place, bad_fraction}
+use Rattle.gerg_model.proofs.mixture.first_bad_fraction.Given as goal
+
+abbrev pub invariant-loop-k : goal.invariant-loop-k
+invariant-loop-k l = (l.k ≤ length l.fractions) × (first_place (bad_fraction l.fractions) (length l.fractions) 0 ≡ first_place (bad_fraction l.fractions) (length l.fractions - l.k) l.k)
+
+abbrev pub decreases-loop-k : goal.decreases-loop-k
+decreases-loop-k l = length l.fractions - l.k

@@ -1,0 +1,15 @@
+use Prim.Native.Nat.{◌-◌}
+use Rattle.numerics.specs.Iterate.{iter_begins, iter_turn, iter_done}
+use Rattle.gerg_reducing.specs.Reducing.{reducing}
+use native.Mathlib.Omega.{arith}
+use Rattle.gerg_reducing.proofs.reducing.reducing.Goals as goal
+
+pub loop-i-init : goal.loop-i-init
+loop-i-init c = (omega arith, iter_begins _ _)
+
+pub loop-i-preserved : goal.loop-i-preserved
+loop-i-preserved c = (omega arith, iter_turn _ _ _ c.loop-i.invariant.1 c.reducing_row-sum.ensures)
+
+pub returns : goal.returns
+unfolding reducing
+returns c = iter_done _ _ _ _ c.loop-i.invariant.1 (omega arith)

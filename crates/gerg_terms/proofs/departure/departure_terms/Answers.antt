@@ -1,0 +1,24 @@
+use native.Mathlib.Omega.{arith}
+use Prim.Native.Nat.{◌-◌}
+use Rattle.numerics.specs.Iterate.{iter_begins, iter_turn, iter_done}
+use Rattle.gerg_terms.specs.Terms.{departure_terms}
+use Rattle.gerg_terms.proofs.departure.departure_terms.Goals as goal
+
+pub overflow_add-n : goal.overflow_add-n
+overflow_add-n c =
+    omega (arith, c.requires.1.departures c.args.function.m c.requires.0)
+
+pub loop-k-init : goal.loop-k-init
+loop-k-init c =
+    (omega arith, omega (arith, c.requires.1.departures c.args.function.m c.requires.0), iter_begins _ _)
+
+pub departure_term-sum-requires : goal.departure_term-sum-requires
+departure_term-sum-requires c =
+    (c.requires.0, omega arith, c.requires.2, c.requires.3 c.loop-k.k (omega arith))
+
+pub loop-k-preserved : goal.loop-k-preserved
+loop-k-preserved c = (omega arith, omega arith, iter_turn _ _ _ c.loop-k.invariant.2 c.departure_term-sum.ensures)
+
+pub returns : goal.returns
+unfolding departure_terms
+returns c = iter_done _ _ _ _ c.loop-k.invariant.2 (omega arith)

@@ -1,0 +1,31 @@
+-- `gerg_terms::departure::exponent_of` meets its contract: each way rewrites the test on k. Assumes nothing.
+use mathlib.Core.Path.{◌≡◌, refl, ap, ◌∙◌}
+use borrow.Author.Tests.{lt-ltb, le-ltb}
+use lib.Ieee.{add, of_bits}
+use Rattle.numerics.specs.Double.{◌⊕◌, +0}
+use Rattle.elementary_exp.specs.Exp.{exp_of}
+use Rattle.elementary_exp.proofs.ExpLaws.{exp_zero}
+use Rattle.gerg_terms.specs.Terms.{exponent_of}
+use Rattle.gerg_terms.proofs.departure.exponent_of.Goals as goal
+
+-- the exponent among the polynomial terms
+no_exponent : +0 ⊕ +0 ⊕ +0 ≡ +0
+unfolding add of_bits
+no_exponent = refl
+
+pub returns-then-k-wide : goal.returns-then-k-wide
+unfolding exponent_of
+returns-then-k-wide c = rw (← c.kpolij.ensures, ← c.wide.ensures, lt-ltb _ _ c.if-k-wide.true, ap exp_of no_exponent ∙ exp_zero)
+
+pub returns : goal.returns
+unfolding exponent_of
+returns c =
+    rw (
+      ← c.kpolij.ensures,
+      ← c.wide.ensures,
+      le-ltb _ _ c.if-k-wide.false,
+      ← c.cijk.ensures,
+      ← c.eijk.ensures,
+      ← c.gijk-g.ensures,
+      c.exp-exponential.ensures,
+    )

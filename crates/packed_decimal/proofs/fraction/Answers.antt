@@ -1,0 +1,7 @@
+-- `packed_decimal::fraction` meets its contract. Assumes nothing.
+use native.Mathlib.Omega.{arith}
+use Rattle.packed_decimal.proofs.Laws.Fraction.{quotient}
+use Rattle.packed_decimal.proofs.fraction.Goals as goal
+
+pub returns : goal.returns
+returns c = quotient _ (omega arith)
