@@ -16,7 +16,7 @@ use Rattle.numerics.specs.Rel.{num_pos}
 use Rattle.numerics.specs.Series.{sum_top, sum_bot, S, above_more}
 use Rattle.numerics.specs.Exp.{inv}
 use Rattle.numerics.specs.Tail.{rho, tiny_above, rho⁻}
-use Rattle.numerics.specs.Distance.{within_factor, within_factor_neg}
+use Rattle.numerics.proofs.Distance.{within_factor, within_factor_neg}
 use Rattle.numerics.specs.Bound.{Bound, bound_weaken}
 use Rattle.elementary_exp.specs.Exp.{most, least, within_of, exp_of}
 use Rattle.elementary_exp.specs.Range.{InRange}

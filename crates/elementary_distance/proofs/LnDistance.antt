@@ -10,7 +10,7 @@ use Rattle.numerics.specs.Frac.{Frac, ◌⊑◌, ◌⊠◌, part}
 use Rattle.numerics.specs.Round.{val}
 use Rattle.numerics.specs.Rel.{num_pos}
 use Rattle.numerics.specs.Nonneg.{nonneg}
-use Rattle.numerics.specs.Logarithm.{ln_near_of, ln_near_of_inv}
+use Rattle.numerics.proofs.Logarithm.{ln_near_of, ln_near_of_inv}
 use Rattle.elementary_ln.specs.Ln.{ln_of}
 use Rattle.elementary_distance.proofs.LnDistanceParts.{share, NearLog}
 use Rattle.elementary_distance.proofs.LnDistanceDouble.{reciprocal, NearLn, ln_near}

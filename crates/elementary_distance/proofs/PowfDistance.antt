@@ -19,11 +19,11 @@ use Rattle.numerics.specs.Tests.{lt→le}
 use Rattle.numerics.specs.Order.{positive_of_tests}
 use Rattle.numerics.specs.Exponential.{signed, size}
 use Rattle.numerics.specs.Power.{PowerWithin, ProductWithin}
-use Rattle.numerics.specs.PowerExponents.{magnitude}
-use Rattle.numerics.specs.SmallExponent.{exp_upper}
-use Rattle.numerics.specs.PowerNear.{power_near, power_zero}
-use Rattle.numerics.specs.PowerArgument.{magnitude_is, spread, product_few}
-use Rattle.numerics.specs.RoundedProduct.{Rounds, product_near}
+use Rattle.numerics.proofs.PowerExponents.{magnitude}
+use Rattle.numerics.proofs.SmallExponent.{exp_upper}
+use Rattle.numerics.proofs.PowerNear.{power_near, power_zero}
+use Rattle.numerics.proofs.PowerArgument.{magnitude_is, spread, product_few}
+use Rattle.numerics.proofs.RoundedProduct.{Rounds, product_near}
 use Rattle.elementary_exp.specs.Exp.{exp_of, most}
 use Rattle.elementary_ln.specs.Ln.{ln_of}
 use Rattle.elementary.specs.Power.{powf_of, powf_from}

@@ -8,11 +8,11 @@ use Rattle.numerics.specs.Fraction.{val}
 use Rattle.numerics.specs.Series.{sum_top, sum_bot}
 use Rattle.numerics.specs.Law.{power}
 use Rattle.numerics.specs.Exponential.{signed, plus_of, BelowExp}
-use Rattle.numerics.specs.ExpBoundSums.{times_of}
-use Rattle.numerics.specs.ExponentialLaws.{exp_below_arg, exp_below_times}
-use Rattle.numerics.specs.Equivalence.{below_nonneg}
-use Rattle.numerics.specs.ExponentOrder.{exp_one_more}
-use Rattle.numerics.specs.PowerConditions.{product_within_by}
+use Rattle.numerics.proofs.ExpBoundSums.{times_of}
+use Rattle.numerics.proofs.ExponentialLaws.{exp_below_arg, exp_below_times}
+use Rattle.numerics.proofs.Equivalence.{below_nonneg}
+use Rattle.numerics.proofs.ExponentOrder.{exp_one_more}
+use Rattle.numerics.proofs.PowerConditions.{product_within_by}
 use Rattle.elementary.specs.Power.{powf_of}
 use Rattle.elementary_distance.specs.Distances.{WithinOfPower, powf_bits}
 use Rattle.elementary_distance.proofs.Theorems.{powf_within}

@@ -12,13 +12,13 @@ use Rattle.numerics.specs.Round.{num_pos}
 use Rattle.numerics.specs.Order.{positive_of_tests}
 use Rattle.numerics.specs.Law.{mono-⊠, power}
 use Rattle.numerics.specs.Exponential.{signed, size, plus_of, BelowExp}
-use Rattle.numerics.specs.ExponentialLaws.{exp_below_times}
-use Rattle.numerics.specs.Distance.{within_weaken}
-use Rattle.numerics.specs.Logarithm.{ln_near_weaken}
+use Rattle.numerics.proofs.ExponentialLaws.{exp_below_times}
+use Rattle.numerics.proofs.Distance.{within_weaken}
+use Rattle.numerics.proofs.Logarithm.{ln_near_weaken}
 use Rattle.numerics.specs.Power.{PowerWithin, ProductWithin}
-use Rattle.numerics.specs.ExponentOrder.{exp_one_more}
-use Rattle.numerics.specs.PowerAlgebra.{AlgebraicWithin, power_algebraic, within_algebraic}
-use Rattle.numerics.specs.PowerConditions.{PowerBetween, product_within_power, product_within_by}
+use Rattle.numerics.proofs.ExponentOrder.{exp_one_more}
+use Rattle.numerics.proofs.PowerAlgebra.{AlgebraicWithin, power_algebraic, within_algebraic}
+use Rattle.numerics.proofs.PowerConditions.{PowerBetween, product_within_power, product_within_by}
 use Rattle.elementary_exp.specs.Exp.{exp_of}
 use Rattle.elementary_ln.specs.Ln.{ln_of}
 use Rattle.elementary.specs.Power.{powf_of}

@@ -6,7 +6,7 @@ use native.Mathlib.Nat.{mul-pos, zero-lt-suc, zero-mul}
 use native.Mathlib.Omega.{arith}
 use borrow.Author.Tests.{ne_eqb}
 use lib.IntN.{ℤ}
-use lib.Ieee.{Float, nan, inf, fin, up, down, lt, le, eq, neg, add, sub, mul, div, of_int, of_bits, to_bits}
+use lib.Ieee.{nan, inf, fin, up, down, lt, le, eq, neg, add, sub, mul, div, of_int, of_bits, to_bits}
 use lib.Ieee.Fits.{up_pos}
 use Rattle.numerics.specs.Double.{+0, one}
 use Rattle.elementary_ln.specs.LnTable.{log_table}

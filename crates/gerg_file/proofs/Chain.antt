@@ -1,6 +1,6 @@
 -- A loop over the things of a chain: after k of n, what is left gives what the whole gives.
-use mathlib.Core.Path.{◌≡◌, refl, sym, ap, ◌∙◌}
-use Prim.Native.Nat.{ℕ, zero, suc, ◌+◌, ◌-◌, ◌*◌, ◌≤◌, ◌<◌}
+use mathlib.Core.Path.{◌≡◌, sym, ap, ◌∙◌}
+use Prim.Native.Nat.{ℕ, suc, ◌+◌, ◌-◌, ◌*◌, ◌≤◌, ◌<◌}
 use native.Mathlib.Omega.{arith}
 use Rattle.gerg_file.specs.declared.walk.Walk.{Walk}
 use Rattle.gerg_file.specs.declared.walk.Walk.TheVariants.{To, Bad}

@@ -1,12 +1,10 @@
 -- The sections of a file, one after the other, from what each call gives.
-use mathlib.Core.Path.{◌≡◌, refl, sym, ap, ◌∙◌}
+use mathlib.Core.Path.{◌≡◌, sym, ap, ◌∙◌}
 use mathlib.Core.List.{List}
 use Prim.Native.Nat.{ℕ}
 use Rattle.gerg_file.specs.declared.walk.Walk.{Walk}
 use Rattle.gerg_file.specs.declared.walk.Walk.TheVariants.{To, Bad}
-use Rattle.gerg_file.specs.declared.File.{File}
 use Rattle.gerg_file.specs.declared.File.TheVariants.{Malformed, WellFormed}
-use Rattle.gerg_file.specs.declared.Layout.{Layout}
 use Rattle.gerg_file.specs.File.{follow, chain, component_step, term_row, pair_row, function_step, departure_row, place, functions, at_end, after_revision, after_components, after_terms, after_pairs, function_count, after_functions, after_departures, verdict, file_of}
 
 module _ (s : List ℕ) {h co te pa fu de en : Walk} {pl pl2 n : ℕ}

@@ -1,5 +1,5 @@
 -- Row 1: which files are accepted, and the offset of the first bad record of one that is not.
-use Rattle.std.specs.Prelude.{Bool, true, false, ◌&&◌, cond, List, [], ◌∷◌, ℕ, zero, suc, ◌+◌, ◌-◌, ◌*◌, leb, eqb, length}
+use Rattle.std.specs.Prelude.{Bool, true, ◌&&◌, cond, List, [], ◌∷◌, ℕ, zero, suc, ◌+◌, ◌-◌, ◌*◌, leb, eqb, length}
 use Rattle.numerics.specs.Double.{pick}
 use Rattle.gerg_file.specs.Kinds as Kinds
 use Rattle.gerg_file.specs.Bytes.{byte, term_count}
@@ -7,7 +7,6 @@ use Rattle.gerg_file.specs.declared.walk.Walk.{Walk}
 use Rattle.gerg_file.specs.declared.walk.Walk.TheVariants.{To, Bad}
 use Rattle.gerg_file.specs.declared.File.{File}
 use Rattle.gerg_file.specs.declared.File.TheVariants.{Malformed, WellFormed}
-use Rattle.gerg_file.specs.declared.Layout.{Layout}
 
 -- on from where the walk has come, unless it met a bad record
 abbrev pub follow : Walk → (ℕ → Walk) → Walk

@@ -1,12 +1,12 @@
 -- The coefficients 1 / 0! to 1 / 16! as binary64 has them, each one rounding of the fraction: by a computed test. Assumes nothing.
-use Rattle.std.specs.Prelude.{List, [], ◌∷◌, ℕ, zero, suc, ◌*◌, ◌^◌, ◌≤◌, Bool, true, false, ◌&&◌, T, leb, Float}
+use Rattle.std.specs.Prelude.{List, [], ◌∷◌, ℕ, suc, ◌*◌, ◌^◌, Bool, true, ◌&&◌, T, leb, Float}
 use Rattle.std.proofs.Common.{leb→le}
 use Rattle.std.specs.Float.{binary64}
 use Rattle.std.specs.Float.Ieee.{of_bits}
 use Rattle.std.specs.Float.Ieee.Fits.{and_l, and_r}
 use Rattle.std.specs.Float.Ieee.Positive.{num, den, positive}
 use Rattle.numerics.specs.Frac.{Frac, big, small}
-use Rattle.numerics.specs.Round.{Rel, val}
+use Rattle.numerics.specs.Round.{Rel}
 use Rattle.numerics.specs.Horner.{fact, one_over, Coefs}
 
 -- v is above zero and e roundings from q: a test that computes

@@ -1,5 +1,5 @@
 -- Fractions over one denominator: `On Q p n` says that p is n / Q. An order of sums of fractions becomes one of whole numbers, which `omega` proves. Assumes nothing.
-use Rattle.std.specs.Prelude.{◌≡◌, ℕ, suc, ◌+◌, ◌-◌, ◌*◌, ◌^◌, ◌≤◌, ◌<◌}
+use Rattle.std.specs.Prelude.{◌≡◌, ℕ, ◌+◌, ◌-◌, ◌*◌, ◌^◌, ◌≤◌, ◌<◌}
 use Rattle.std.proofs.Common.{sym, ap, ap₂, ◌∙◌, mul-pos, mul_comm, mul-le-mul_right, le_of_mul-le-mul_right, one-mul, pow-suc, arith}
 use Rattle.std.proofs.Math.Nat.{mul-sub, pow-zero}
 use Rattle.numerics.specs.Frac.{Frac, ◌⊑◌, ◌⊞◌, big, small, Under}

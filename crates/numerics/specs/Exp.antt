@@ -1,8 +1,8 @@
 -- `Le u q v` says that e ^ u ≤ q * e ^ v, for u, v and q that are not negative: each partial sum on the left is below q times some partial sum on the right.
 -- An exponent of either sign is u - v, so no case is made of signs. From the reduction u + j * L = v + i * L + r up to δ, with e ^ L near 2, come bounds on
 -- e ^ (u - v) by 2 ^ i / 2 ^ j and bounds on e ^ r (`exp_above`, `exp_below`). Assumes nothing.
-use Rattle.std.specs.Prelude.{◌≡◌, refl, ℕ, zero, suc, ◌+◌, ◌-◌, ◌*◌, ◌^◌, ◌≤◌, ◌<◌}
-use Rattle.std.proofs.Common.{sym, ap, ap₂, ◌∙◌, subst, le_refl, le_trans, le_of_eq, mul-pos, mul-one, one-mul, mul-le-mul, mul-le-mul_right, mul-le-mul_left, le_of_mul-le-mul_right, arith}
+use Rattle.std.specs.Prelude.{ℕ, zero, suc, ◌+◌, ◌*◌, ◌≤◌, ◌<◌}
+use Rattle.std.proofs.Common.{ap, le_refl, mul-pos, mul-le-mul_right, arith}
 use Rattle.numerics.specs.Frac.{Frac, ◌⊑◌, ◌⊞◌, ◌⊠◌, nat, ⊑_refl, ⊑_trans}
 use Rattle.numerics.specs.Series.{sum_top, sum_bot, S, Above, Below, S-arg}
 use Rattle.numerics.specs.Law.{mono-⊠, law_lower, law_upper, times, power, zero_sum, above_power, below_power}

@@ -1,12 +1,10 @@
 -- `round` leaves a value of the format as it is (`round_fixes`), so a value on one side of a fraction stays on that side of the rounded fraction
 -- (`value_le_round`, `round_le_value`), and a zero is one (`zero_val`), and a value strictly beyond the rounded fraction is strictly beyond the fraction (`above_round`, `below_round`). Assumes nothing.
-use Rattle.std.specs.Prelude.{◌≡◌, refl, ℕ, zero, suc, ◌+◌, ◌-◌, ◌*◌, ◌%◌, ◌^◌, ◌≤◌, ◌<◌, true, false, ◌&&◌, ℤ, pos, negsuc, T, ltb, leb, eqb, Float}
-use Rattle.std.proofs.Common.{sym, ap, ◌∙◌, subst, arith, inl, inr, ltb→lt, leb→le, lit≤, pow-add, pow_pos}
+use Rattle.std.specs.Prelude.{◌≡◌, ℕ, zero, suc, ◌+◌, ◌-◌, ◌*◌, ◌^◌, ◌≤◌, ◌<◌, true, false, pos, negsuc, T, Float}
+use Rattle.std.proofs.Common.{sym, ap, ◌∙◌, subst, arith, inl, inr, lit≤, pow-add, pow_pos}
 use native.Mathlib.Nat.{lt_of_lt_of_le, lt_of_not-le, not-le_of_lt, mul-le-mul_right, lt_irrefl, mul-lt-mul_of_pos_right, eq-zero-or-pos, mul-pos, zero-mul}
-use Rattle.std.proofs.Math.Pow.{pow-lt}
 use Rattle.std.specs.Float.{nan, inf, fin, Format, binary64}
-use Rattle.std.specs.Float.Ieee.{prec, emax, low, up, down, round, fits}
-use Rattle.std.specs.Float.Ieee.Fits.{and_l, and_r}
+use Rattle.std.specs.Float.Ieee.{emax, low, round, fits}
 use Rattle.std.specs.Float.Ieee.Exact.{HasValue, round_exact}
 use Rattle.std.specs.Float.Ieee.Nearest.{closest}
 use Rattle.std.specs.Float.Ieee.Order.{drop, kept, round_mono}

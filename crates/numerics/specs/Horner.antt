@@ -1,15 +1,15 @@
 -- Horner's rule. `taylor 0 n x`, with exact coefficients 1 / k!, is the partial sum S n x (`taylor_is`).
 -- The same in binary64, with coefficients that are each one rounding of 1 / k!, is within 2 * n + 1 roundings of it (`horner_rel`). Assumes nothing.
-use Rattle.std.specs.Prelude.{◌≡◌, refl, T, leb}
-use Rattle.std.proofs.Common.{sym, ap, ap₂, ◌∙◌, lit≤}
+use Rattle.std.specs.Prelude.{◌≡◌, refl, T}
+use Rattle.std.proofs.Common.{sym, ap, ◌∙◌, lit≤}
 use Rattle.std.proofs.Math.Path.{subst}
 use mathlib.Core.List.{List, [], ◌∷◌}
-use Prim.Native.Nat.{ℕ, zero, suc, ◌+◌, ◌-◌, ◌*◌, ◌^◌, ◌≤◌, ◌<◌}
+use Prim.Native.Nat.{ℕ, zero, suc, ◌+◌, ◌*◌, ◌^◌, ◌≤◌, ◌<◌}
 use native.Mathlib.Nat.{le_refl, le_trans, le_of_eq, mul-pos, zero-lt-suc, mul-one, one-mul, mul-le-mul, mul-le-mul_right, mul-le-mul_left, le_of_mul-le-mul_right, pow-suc, pow-zero, zero-add}
 use native.Mathlib.Omega.{arith}
 use lib.Ieee.{Float, binary64, add, mul}
-use Rattle.numerics.specs.Frac.{Frac, ◌⊑◌, ◌⊞◌, ◌⊠◌, Close, close_trans, close_same}
-use Rattle.numerics.specs.Series.{sum_top, sum_bot, S}
+use Rattle.numerics.specs.Frac.{Frac, ◌⊞◌, ◌⊠◌, Close, close_same}
+use Rattle.numerics.specs.Series.{sum_top, S}
 use Rattle.numerics.specs.Law.{rise, all}
 use Rattle.numerics.specs.Round.{val, Rel}
 use Rattle.numerics.specs.Rel.{rel_exact, rel_weaken, rel_trans, rel_mul, rel_add, Ample}

@@ -5,8 +5,8 @@ use Rattle.std.proofs.Common.{sym, ap, ap₂, ◌∙◌, subst, arith}
 use native.Mathlib.Nat.{le_refl, le_trans, le_of_eq, le_of_suc-le, mul-pos, zero-lt-suc, mul-one, one-mul, mul-le-mul, mul-le-mul_right, mul-le-mul_left, le_of_mul-le-mul_right, pow-suc, pow-zero, sub_self, sub-zero, add-zero, zero-mul, zero-add, add-suc, suc-add, add_comm, add-sub_cancel, add-sub_cancel_left, le-add_left, le-add_right, eq_of_mul-eq-mul_left}
 use Rattle.numerics.specs.Frac.{Frac, ◌⊑◌, ◌⊞◌, ◌⊠◌, ⊑_refl, ⊑_trans}
 pub use Rattle.numerics.specs.Frac.{over}
-use Rattle.numerics.specs.Conv.{sum, conv, shift, D, sum_cong, sum_scale, conv_cong, conv_scale, conv_scale', leibniz, triangle_in_square, box_in_triangle}
-use Rattle.numerics.specs.Series.{sum_top, sum_bot, sum_bot_pos, S, Above, Below, S-mono, S-arg, above_arg, below_arg}
+use Rattle.numerics.specs.Conv.{sum, conv, D, sum_cong, sum_scale, conv_cong, conv_scale, conv_scale', leibniz, triangle_in_square, box_in_triangle}
+use Rattle.numerics.specs.Series.{sum_top, sum_bot, S, Above, Below, S-arg, above_arg, below_arg}
 
 -- ---- the terms a ^ i / (d ^ i * i!) for i up to N, times d ^ N * N!
 -- d ^ j * (i + 1) * .. * (i + j)

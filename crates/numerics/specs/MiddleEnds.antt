@@ -1,6 +1,6 @@
 -- A middle that is an end leaves no double between the ends. Assumes nothing.
 use Rattle.std.specs.Prelude.{◌≡◌, refl, ◌⊎◌, ℕ, zero, suc, ◌+◌, ◌-◌, ◌*◌, ◌^◌, ◌≤◌, ◌<◌, Bool, true, false, not, T, leb, Float}
-use Rattle.std.proofs.Common.{sym, ap, ◌∙◌, inl, inr, le_trans, le_antisymm, le_of_lt, lt_of_le_of_lt, mul-one, mul-le-mul_right, mul-le-mul_left, le_of_mul-le-mul_right, lt_of_mul-lt-mul_right, not-le_of_lt, le_of_suc-le-suc, add-sub_of_le, pow-suc, arith, leb→le, lit≤, lit<, pow_pos}
+use Rattle.std.proofs.Common.{sym, ap, ◌∙◌, inl, inr, le_trans, le_antisymm, le_of_lt, lt_of_le_of_lt, mul-one, mul-le-mul_right, le_of_mul-le-mul_right, lt_of_mul-lt-mul_right, not-le_of_lt, le_of_suc-le-suc, add-sub_of_le, pow-suc, arith, leb→le, lit≤, lit<, pow_pos}
 use Rattle.std.proofs.Math.Path.{subst}
 use Rattle.std.proofs.Math.Dec.{nleb→lt}
 use Rattle.std.specs.Float.Ieee.{binary64, round}

@@ -1,5 +1,5 @@
 -- The width of a range of doubles, the half of it and the middle, as whole numbers of the smallest double: the middle lies between the ends, which it may equal. Assumes nothing.
-use Rattle.std.specs.Prelude.{◌≡◌, refl, ℕ, ◌+◌, ◌-◌, ◌*◌, ◌^◌, ◌≤◌, ◌<◌, false, negsuc, Float}
+use Rattle.std.specs.Prelude.{◌≡◌, refl, ℕ, ◌+◌, ◌-◌, ◌*◌, ◌^◌, ◌≤◌, false, negsuc, Float}
 use Rattle.std.proofs.Common.{sym, ap, subst, le_trans, le_of_eq, le_of_lt, mul-le-mul, mul-le-mul_left, arith, lit≤}
 use Rattle.std.proofs.Math.Dec.{T}
 use Rattle.std.specs.Float.{fin}

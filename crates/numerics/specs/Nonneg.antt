@@ -1,12 +1,11 @@
 -- `Rel` for values that may be zero: `Rel0 e v q` says that v is finite, not negative, and e roundings from q. Assumes nothing.
-use Rattle.std.specs.Prelude.{◌≡◌, refl, ◌⊎◌, ℕ, ◌+◌, ◌-◌, ◌*◌, ◌^◌, ◌≤◌, ◌<◌, Bool, true, false, not, T, Float}
+use Rattle.std.specs.Prelude.{◌≡◌, ◌⊎◌, ℕ, ◌+◌, ◌*◌, ◌^◌, ◌≤◌, ◌<◌, true, false, T, Float}
 use Rattle.std.proofs.Common.{sym, ◌∙◌, subst, inl, inr, mul-pos, mul-le-mul_right, zero-mul, eq-zero-or-pos, arith, true≢false, pow_pos}
 use Rattle.std.proofs.Math.Nat.{eq_of_mul-eq-mul_right, one-le-pow}
 use Rattle.std.specs.Float.{nan, inf, fin, Format, binary64}
 use Rattle.std.specs.Float.Ieee.{round, add, mul, div, le}
 use Rattle.std.specs.Float.Ieee.Exact.{HasValue}
 use Rattle.std.specs.Float.Ieee.Order.{round_mono}
-use Rattle.std.specs.Float.Ieee.Scale.{finite}
 use Rattle.std.specs.Float.Ieee.Positive.{num, den, positive, den_pos, le→cross, value→cross, positive-finite}
 use Rattle.numerics.specs.Frac.{Frac, ◌⊞◌, ◌⊠◌, big, small, small_pos, Close, close_trans, close_weaken, close_mul, close_add}
 use Rattle.numerics.specs.Round.{val, Rel, Normal, round_rel, num_pos}

@@ -12,7 +12,7 @@ use Rattle.std.specs.Float.Ieee.Scale.{finite, overflow}
 use Rattle.std.specs.Float.Ieee.Positive.{num, den, positive}
 use Rattle.numerics.specs.Double.{◌⊖◌, ◌⊘◌, +0}
 use Rattle.numerics.specs.Frac.{Frac, small, small_pos, big}
-use Rattle.numerics.specs.Nonneg.{nonneg, Rel0, round_rel0}
+use Rattle.numerics.specs.Nonneg.{nonneg, round_rel0}
 use Rattle.numerics.specs.Zero.{zero_is}
 
 -- a number with the sign s

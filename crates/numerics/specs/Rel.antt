@@ -1,9 +1,9 @@
 -- The operators of binary64 on values above zero, as one rounding of the exact fraction (`add_is`, `mul_is`, `div_is`, `sub_is`),
 -- and how the count of roundings goes through them (`rel_add`, `rel_mul`, `rel-div`). Assumes nothing.
-use Rattle.std.specs.Prelude.{◌≡◌, refl, ℕ, ◌+◌, ◌-◌, ◌*◌, ◌^◌, ◌≤◌, ◌<◌, true, false, T, Float}
+use Rattle.std.specs.Prelude.{◌≡◌, ℕ, ◌+◌, ◌-◌, ◌*◌, ◌^◌, ◌≤◌, ◌<◌, false, T, Float}
 use native.Mathlib.Nat.{mul-pos, mul-le-mul_right, mul-le-mul_left, le_of_mul-le-mul_right}
 use Rattle.std.proofs.Common.{arith, lit≤}
-use Rattle.std.specs.Float.{nan, inf, fin, Format, binary64}
+use Rattle.std.specs.Float.{Format, binary64}
 use Rattle.std.specs.Float.Ieee.{round, add, sub, mul, div}
 use Rattle.std.specs.Float.Ieee.Positive.{num, den, positive, positive-finite}
 use Rattle.numerics.specs.Frac.{Frac, ◌⊑◌, ◌⊞◌, ◌⊠◌, big, small, Under, Close, under_weaken, close_trans, close_weaken, close_mul, close_add, close_refl}

@@ -1,6 +1,6 @@
 -- What `round` gives is within half a unit in the last place of the fraction, and so, in the normal range, within one part in 2 ^ prec (`grid_near`).
 -- For binary64: `round-close`. Then the sums, products, quotients and differences of values above zero. Assumes nothing.
-use Rattle.std.specs.Prelude.{◌≡◌, refl, false, not, T, Float}
+use Rattle.std.specs.Prelude.{◌≡◌, false, not, T, Float}
 use Rattle.std.proofs.Common.{ap, ◌∙◌, arith, leb→le, eqb→eq, lit≤, pow-add, pow_pos}
 use Prim.Native.Nat.{ℕ, suc, ◌+◌, ◌-◌, ◌*◌, ◌/◌, ◌%◌, ◌^◌, ◌≤◌, ◌<◌, compare, Ordering}
 use native.Mathlib.Nat.{le_trans, le_of_eq, le_of_lt, lt_of_lt_of_le, mul-pos, one-mul, mul-le-mul_right, mul-le-mul_left, le_of_mul-le-mul_right, lt_of_mul-lt-mul_right, div-add-mod', mod-lt, le-div_iff_mul-le, pow-suc}

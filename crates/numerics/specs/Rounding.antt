@@ -1,14 +1,14 @@
 -- The laws of rounding at binary64, stated once over the operation: + - × / on finite operands, at any signs.
---   is-rounded         the result is the exact one, rounded once (`rounded_at`: in any format; `add_upright` and so on: of operands without a sign)
---   within-unit        |result - exact| ≤ 2 ^ -53 * |exact|, and the sign is right, where the exact result is at least 2 ^ -1022 and the result is finite
---   normal-finite      the result is finite where the exact one is between 2 ^ -1022 and 2 ^ 1023
---   within-half-unit   |result - exact| ≤ half a unit in the last place, wherever the result is finite
---   exact-where-held, exact-zero   the result is the exact one where a double holds it
+--   is_rounded         the result is the exact one, rounded once (`rounded_at`: in any format; `add_upright` and so on: of operands without a sign)
+--   round_unit         |rounded - exact| ≤ 2 ^ -53 * |exact|, and the sign is right, where the exact value is at least 2 ^ -1022 and the rounded one is finite (of an operation: `numerics: WithinUnit`)
+--   normal_finite      the result is finite where the exact one is between 2 ^ -1022 and 2 ^ 1023
+--   within_half_unit   |result - exact| ≤ half a unit in the last place, wherever the result is finite
+--   exact_where_held, exact_zero   the result is the exact one where a double holds it
 --   monotone           a larger exact result rounds to no smaller double
---   beyond-above, beyond-below   a double strictly beyond the result is strictly beyond the exact one
+--   beyond_above, beyond_below   a double strictly beyond the result is strictly beyond the exact one
 -- Assumes nothing.
-use Rattle.std.specs.Prelude.{◌≡◌, refl, ℕ, zero, suc, ◌+◌, ◌-◌, ◌*◌, ◌^◌, ◌≤◌, ◌<◌, Bool, true, false, not, ◌&&◌, cond, T, ltb, eqb}
-use Rattle.std.proofs.Common.{sym, ap, ap₂, ◌∙◌, subst, mul-pos, mul-le-mul_right, le_of_mul-le-mul_right, lt_irrefl, arith, le-ltb, eqb→eq, ltb→lt, pow_pos}
+use Rattle.std.specs.Prelude.{◌≡◌, refl, ℕ, ◌+◌, ◌-◌, ◌*◌, ◌^◌, ◌≤◌, ◌<◌, Bool, true, false, not, ◌&&◌, cond, T, ltb, eqb}
+use Rattle.std.proofs.Common.{ap, ap₂, ◌∙◌, subst, mul-pos, mul-le-mul_right, le_of_mul-le-mul_right, lt_irrefl, arith, le-ltb, eqb→eq, pow_pos}
 use Rattle.std.specs.Bool.{beq}
 use lib.Ieee.{Float, nan, inf, fin, Format, binary64, up, down, round, add, sub, mul, div, sum, neg, le, unlike, fits}
 use Rattle.std.specs.Float.Ieee.Exact.{HasValue}
@@ -186,10 +186,6 @@ round_unit s q n t =
 
     under_it : (x d g l a c P : ℕ) → 0 < l → x * l ≡ g * d → a * l * P ≤ g * c * P + a * l → a * (d * (P * c)) ≤ (x * (P * c) + 1 * a * d) * c
     under_it x d g l a c P L e h = le_of_mul-le-mul_right {k = l} (omega (arith, mul-le-mul_right (d * c) h, ap (λ (z : ℕ). z * (c * c * P)) e)) L
-
-pub within_unit : (o : Operation) (x y : Float) → T (finite x) → T (finite y) → (d : Defined o y) → exact_bot o x y ≤ exact_top o x y * 2 ^ 1022 → T (finite (apply o x y))
-    → Rounded (exact_sign o x y) (exact o x y d) (apply o x y)
-within_unit o x y p q d n t = rw (is_rounded o x y p q d) (round_unit (exact_sign o x y) (exact o x y d) n (rw (is_rounded o x y p q d) at t))
 
 -- a result is finite where the exact one is at most 2 ^ 1023
 pub finite_of_value : (v : Float) (s : Bool) (a c : ℕ) → HasValue v s a c → T (finite v)

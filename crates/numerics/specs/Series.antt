@@ -1,7 +1,7 @@
 -- The exponential of a fraction x that is not negative, by the partial sums of its power series: S n x = 1 + x + x ^ 2 / 2! + .. + x ^ n / n!.
 -- `Above x q` says that q is at least every partial sum, and so at least e ^ x. `Below x q` says that q is at most some partial sum, and so below e ^ x.
 -- Assumes nothing.
-use Rattle.std.specs.Prelude.{refl, ℕ, zero, suc, ◌+◌, ◌-◌, ◌*◌, ◌^◌, ◌≤◌, ◌<◌, T, leb, Bool, true, false, not}
+use Rattle.std.specs.Prelude.{ℕ, zero, suc, ◌+◌, ◌*◌, ◌^◌, ◌≤◌, ◌<◌, T, leb, Bool, true, false, not}
 use native.Mathlib.Nat.{le_refl, le_trans, mul-le-mul, mul-le-mul_right, mul-le-mul_left, pow-suc}
 use Rattle.std.proofs.Math.Decide.{le_ind}
 use Rattle.std.proofs.Common.{arith, leb→le}

@@ -1,11 +1,9 @@
 -- Doubles above zero as whole numbers of 2 ^ -1074, and the gap between two of them: a double above x is above it by at least one part in 2 ^ 53 of x. Assumes nothing.
-use Rattle.std.specs.Prelude.{◌≡◌, refl, ℕ, zero, suc, ◌+◌, ◌-◌, ◌*◌, ◌/◌, ◌%◌, ◌^◌, ◌≤◌, ◌<◌, Bool, true, false, not, ◌&&◌, ℤ, pos, negsuc, T, ltb, leb, eqb, Float}
-use Rattle.std.proofs.Common.{sym, ap, ◌∙◌, subst, le_of_lt, le_of_eq, le_antisymm, lt_of_not-le, not-le_of_lt, lt_trans, mul-one, mul_assoc, mul-le-mul_right, lt_of_mul-lt-mul_right, lt_of_lt_of_le, add-sub_of_le, sub-add_cancel, lt_irrefl, mul-div_cancel, arith, ltb→lt, leb→le, lt→ltb, pow-add, pow_pos}
+use Rattle.std.specs.Prelude.{◌≡◌, refl, ℕ, zero, suc, ◌+◌, ◌-◌, ◌*◌, ◌/◌, ◌^◌, ◌≤◌, ◌<◌, Bool, true, false, not, pos, negsuc, T, ltb, leb, Float}
+use Rattle.std.proofs.Common.{sym, ap, ◌∙◌, subst, le_of_lt, le_of_eq, le_antisymm, lt_of_not-le, not-le_of_lt, lt_trans, mul-one, mul_assoc, mul-le-mul_right, lt_of_mul-lt-mul_right, add-sub_of_le, sub-add_cancel, mul-div_cancel, arith, ltb→lt, leb→le, lt→ltb, pow-add, pow_pos}
 use Rattle.std.proofs.Math.Dec.{nleb→lt}
-use Rattle.std.proofs.Math.Pow.{pow-lt}
 use Rattle.std.specs.Float.{nan, inf, fin, binary64}
-use Rattle.std.specs.Float.Ieee.{up, down, size, fits, to_bits, of_bits, lt, le}
-use Rattle.std.specs.Float.Ieee.Fits.{and_l, and_r}
+use Rattle.std.specs.Float.Ieee.{down, size, fits, to_bits, of_bits, lt, le}
 use Rattle.std.specs.Float.Ieee.Bits.{of_bits-to_bits}
 use Rattle.std.specs.Float.Ieee.Positive.{num, den, positive, den_pos, le→cross, cross→le}
 use Rattle.numerics.specs.Frac.{big}

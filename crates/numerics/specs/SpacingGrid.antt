@@ -12,7 +12,7 @@ use lib.Ieee.Positive.{num, den, positive, den_pos, positive_of_value, positive-
 use Rattle.numerics.specs.Frac.{Frac}
 use Rattle.numerics.specs.Round.{val, closest_above, closest_below}
 use Rattle.numerics.specs.Common.{On, on_le}
-use Rattle.numerics.specs.Spacing.{unit, count, counted, Digits, digits_of, Good, shifted}
+use Rattle.numerics.specs.Spacing.{unit, count, counted, digits_of, Good, shifted}
 
 -- ---- a fraction that is a whole number of the smallest double with at most 53 digits is rounded to itself
 exact_value : (q : Frac) (n d j : ℕ) → On unit q n → n ≡ d * 2 ^ j → d < 2 ^ 53 → n ≤ unit * 2 ^ 200 → HasValue (round binary64 false q.top q.bot) false q.top q.bot

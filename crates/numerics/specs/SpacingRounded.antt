@@ -1,15 +1,15 @@
 -- Sums, differences and parts of doubles as whole numbers of the smallest double, each rounded once. Assumes nothing.
-use Rattle.std.specs.Prelude.{◌≡◌, refl, ℕ, zero, suc, ◌+◌, ◌-◌, ◌*◌, ◌^◌, ◌≤◌, ◌<◌, Bool, true, false, ℤ, pos, negsuc, T, Float}
-use Rattle.std.proofs.Common.{sym, ap, ◌∙◌, subst, le_trans, le_of_lt, lt_of_lt_of_le, mul-pos, mul-le-mul_right, mul-le-mul_left, le_of_mul-le-mul_right, lt_of_not-le, not-le_of_lt, arith, lit≤, pow_pos}
-use Rattle.std.specs.Float.{nan, inf, fin, binary64}
-use Rattle.std.specs.Float.Ieee.{add, sub, mul, fits, lt, le}
+use Rattle.std.specs.Prelude.{◌≡◌, ℕ, ◌+◌, ◌-◌, ◌*◌, ◌^◌, ◌≤◌, ◌<◌, T, Float}
+use Rattle.std.proofs.Common.{ap, le_trans, mul-pos, mul-le-mul_right, mul-le-mul_left, le_of_mul-le-mul_right, arith, lit≤}
+use Rattle.std.specs.Float.{binary64}
+use Rattle.std.specs.Float.Ieee.{add, sub, mul}
 use Rattle.std.specs.Float.Ieee.Fits.{add-fits, sub-fits, mul-fits}
 use Rattle.std.specs.Float.Ieee.Positive.{num, den, positive}
-use Rattle.numerics.specs.Frac.{Frac, ◌⊑◌, ◌⊞◌, ◌⊠◌, big, small, Under, Close}
+use Rattle.numerics.specs.Frac.{Frac, ◌⊞◌, ◌⊠◌, big, small}
 use Rattle.numerics.specs.Round.{val, Rel, Normal}
 use Rattle.numerics.specs.Rel.{less, add_rel, mul_rel, sub_rel}
-use Rattle.numerics.specs.Common.{On, on_le, le_on, on_add, on_less, on_under}
-use Rattle.numerics.specs.Spacing.{unit, unit_pos, count, counted, gap, Good}
+use Rattle.numerics.specs.Common.{On, le_on, on_add, on_less, on_under}
+use Rattle.numerics.specs.Spacing.{unit, unit_pos, count, counted, Good}
 
 -- one rounding apart
 pub record OneRounding (a b : ℕ) : Type 0 where

@@ -1,12 +1,12 @@
 -- Slack in roundings for what the exponential's reduction leaves: the cut tail of the series (`tail_under`), the powers of a fraction just below 2 (`power_slack`),
 -- and a small error in the exponent (`tiny_above`). `rho e` is the factor of e roundings as a fraction. Assumes nothing.
 use Rattle.std.specs.Prelude.{◌≡◌, refl}
-use Rattle.std.proofs.Common.{sym, ap, ap₂, ◌∙◌, subst, le_refl, le_trans, le_of_eq, mul-pos, mul-one, one-mul, mul_comm, mul-le-mul, mul-le-mul_right, mul-le-mul_left, le_of_mul-le-mul_right, pow-suc, add-sub_of_le, lit≤, pow-add}
+use Rattle.std.proofs.Common.{sym, ap, ◌∙◌, subst, le_refl, one-mul, mul-le-mul_right, mul-le-mul_left, le_of_mul-le-mul_right, pow-suc, add-sub_of_le, pow-add}
 use Prim.Native.Nat.{ℕ, zero, suc, ◌+◌, ◌-◌, ◌*◌, ◌^◌, ◌≤◌, ◌<◌}
 use Rattle.std.proofs.Math.Nat.{pow-succ', pow-zero, one-le-pow, pow-le-pow_left}
 use native.Mathlib.Omega.{arith}
-use Rattle.numerics.specs.Frac.{Frac, ◌⊑◌, ◌⊞◌, ◌⊠◌, nat, big, small, small_pos, big_pos, small_le, Under, ⊑_refl, ⊑_trans}
-use Rattle.numerics.specs.Series.{sum_top, sum_bot, sum_bot_pos, S, U, Above, Below, S-mono, above_by, term_mono}
+use Rattle.numerics.specs.Frac.{Frac, ◌⊑◌, ◌⊠◌, nat, big, small, small_pos, big_pos, Under}
+use Rattle.numerics.specs.Series.{sum_top, sum_bot, sum_bot_pos, S, U, Above, S-mono, above_by, term_mono}
 use Rattle.numerics.specs.Law.{power}
 
 abbrev pub rho : ℕ → Frac

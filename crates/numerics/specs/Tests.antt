@@ -1,5 +1,5 @@
 -- Laws of tests: what `not`, `&&` and `||` of them say, and orders of doubles. Assumes nothing.
-use Rattle.std.specs.Prelude.{◌≡◌, refl, ◌⊎◌, Bool, true, false, not, ◌&&◌, ◌||◌, T, Float}
+use Rattle.std.specs.Prelude.{◌≡◌, refl, ◌⊎◌, Bool, true, false, ◌&&◌, ◌||◌, T, Float}
 use Rattle.std.proofs.Common.{sym, subst, inl, inr, true≢false}
 use Rattle.std.proofs.lemmas.Bool.{false≢true}
 use Rattle.std.specs.Float.Ieee.{lt, le, eq}

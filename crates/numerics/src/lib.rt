@@ -1,1 +1,3 @@
+#![tactic(auto)]
+
 // Specifications and laws that every other crate cites; no code runs.

@@ -1,19 +1,17 @@
 -- What row 1 finds of a file that it accepts.
 use mathlib.Core.Path.{◌≡◌, refl, sym, ap, ◌∙◌}
-use mathlib.Core.Bool.{Bool, true, false, cond}
+use mathlib.Core.Bool.{Bool, true, false}
 use mathlib.Core.List.{List}
 use Prim.Native.Nat.{ℕ, suc, ◌+◌, ◌-◌, ◌*◌, ◌≤◌, ◌<◌}
 use native.Mathlib.Omega.{arith}
 use borrow.Author.Tests.{ltb-true, ltb-false, lt-ltb, le-ltb}
 use lib.Dec.{ltb}
-use Rattle.gerg_file.specs.declared.walk.Walk.{Walk}
 use Rattle.gerg_file.specs.declared.walk.Walk.TheVariants.{To}
-use Rattle.gerg_file.specs.declared.File.{File}
 use Rattle.gerg_file.specs.declared.File.TheVariants.{WellFormed}
 use Rattle.gerg_file.specs.declared.Layout.{Layout}
 use Rattle.gerg_file.specs.Kinds as Kinds
 use Rattle.gerg_file.specs.Bytes.{term_count}
-use Rattle.gerg_file.specs.File.{chain, pair_row, file_of}
+use Rattle.gerg_file.specs.File.{pair_row, file_of}
 use Rattle.gerg_file.specs.Laid.{Laid}
 use Rattle.gerg_file.specs.Counts.{sum, terms_of, departures_of}
 use Rattle.gerg_file.proofs.WellFormed.{components_walk, terms_walk, pairs_walk, functions_walk, departures_walk, terms_limit, count_limit, departures_limit, length_is}

@@ -1,16 +1,13 @@
 -- The records of a well-formed file stand where their definitions say, and it has at most 28,377 bytes.
-use mathlib.Core.Path.{◌≡◌, refl, sym, ap, ◌∙◌}
+use mathlib.Core.Path.{◌≡◌, refl}
 use mathlib.Core.List.{List}
 use Prim.Native.Nat.{ℕ, zero, suc, ◌+◌, ◌-◌, ◌*◌, ◌≤◌, ◌<◌}
 use native.Mathlib.Omega.{arith}
-use Rattle.gerg_file.specs.declared.walk.Walk.{Walk}
-use Rattle.gerg_file.specs.declared.walk.Walk.TheVariants.{To}
-use Rattle.gerg_file.specs.declared.File.{File}
 use Rattle.gerg_file.specs.declared.File.TheVariants.{WellFormed}
 use Rattle.gerg_file.specs.declared.Layout.{Layout}
 use Rattle.gerg_file.specs.Kinds as Kinds
 use Rattle.gerg_file.specs.Bytes.{term_count}
-use Rattle.gerg_file.specs.File.{chain, numbered, pair_row, file_of}
+use Rattle.gerg_file.specs.File.{numbered, pair_row, file_of}
 use Rattle.gerg_file.specs.Laid.{Laid}
 use Rattle.gerg_file.specs.Counts.{sum, terms_of, departures_of}
 use Rattle.gerg_file.proofs.Begins.{term_record, pair_record, departure_record, Stands}

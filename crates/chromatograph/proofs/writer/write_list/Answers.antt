@@ -1,6 +1,7 @@
 -- `chromatograph::writer::write_list` meets its contract. Assumes nothing.
 use native.Mathlib.Omega.{arith}
 use Rattle.chromatograph.specs.Lists.{bad_place}
+use Rattle.chromatograph.specs.declared.ListAnswer.TheVariants.{Refused, Written}
 use Rattle.chromatograph.proofs.Laws.Writing as laws
 use Rattle.chromatograph.proofs.writer.write_list.Goals as goal
 

@@ -1,5 +1,5 @@
 use native.Mathlib.Omega.{arith}
-use Prim.Native.Nat.{◌-◌, ◌<◌}
+use Prim.Native.Nat.{◌<◌}
 use Rattle.elementary_sqrt.proofs.Root.{Found, found_first, found_left, found_one, found_zero, found_all}
 use mathlib.Core.Path.{◌≡◌}
 use Rattle.elementary_sqrt.proofs.sqrt.root_digits.Goals as goal
@@ -29,8 +29,8 @@ loop-i-preserved c =
     let i-less : l.i < 54 = omega arith in (
       omega arith,
       elim c.if-next-left.branch [
-        then-next-left w ↦ rw (w.root-is, w.left-is) (found_one _ l.i l.root l.left l.bit i-less l.invariant.1 w.if-next-left.true)
-      | else-next-left w ↦ rw (w.root-is, w.left-is) (found_zero _ l.i l.root l.left l.bit i-less l.invariant.1 w.if-next-left.false)
+        | then-next-left w ↦ rw (w.root-is, w.left-is) (found_one _ l.i l.root l.left l.bit i-less l.invariant.1 w.if-next-left.true)
+        | else-next-left w ↦ rw (w.root-is, w.left-is) (found_zero _ l.i l.root l.left l.bit i-less l.invariant.1 w.if-next-left.false)
       ],
     )
 

@@ -1,6 +1,5 @@
 use native.Mathlib.Omega.{arith}
 use mathlib.Core.Path.{sym}
-use Prim.Native.Nat.{◌-◌}
 use Rattle.gerg_file.proofs.Chain.{start, go, stop, done}
 use Rattle.gerg_file.proofs.records.counted_run.Goals as goal
 

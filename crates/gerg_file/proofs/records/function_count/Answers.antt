@@ -1,6 +1,5 @@
 use native.Mathlib.Omega.{arith}
 use mathlib.Core.Path.{sym}
-use Prim.Native.Nat.{◌-◌}
 use Rattle.numerics.specs.CallTests.{same, other}
 use Rattle.gerg_file.proofs.Chain.{more, no_more, all_counted}
 use Rattle.gerg_file.proofs.records.function_count.Goals as goal

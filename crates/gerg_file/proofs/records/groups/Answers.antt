@@ -1,7 +1,7 @@
 use native.Mathlib.Nat.{mul-le-mul}
 use native.Mathlib.Omega.{arith}
 use mathlib.Core.Path.{sym}
-use Prim.Native.Nat.{◌-◌, ◌≤◌}
+use Prim.Native.Nat.{◌≤◌}
 use Rattle.gerg_file.proofs.Chain.{start, go, stop, done, group_step}
 use Rattle.gerg_file.proofs.records.groups.Goals as goal
 

@@ -2,7 +2,7 @@ use native.Mathlib.Nat.{mul-le-mul}
 use native.Mathlib.Omega.{arith}
 use mathlib.Core.Path.{sym, ap}
 use mathlib.Core.Bool.{Bool}
-use Prim.Native.Nat.{◌-◌, ◌≤◌}
+use Prim.Native.Nat.{◌≤◌}
 use Rattle.gerg_file.specs.File.{passed}
 use Rattle.gerg_file.proofs.Chain.{start, go, stop, done}
 use Rattle.gerg_file.proofs.records.numbered_run.Goals as goal

@@ -1,6 +1,5 @@
 use native.Mathlib.Omega.{arith}
 use mathlib.Core.Path.{sym}
-use Prim.Native.Nat.{◌-◌}
 use Rattle.gerg_file.proofs.Chain.{start, go, stop, done}
 use Rattle.gerg_file.proofs.records.pair_rows.Goals as goal
 

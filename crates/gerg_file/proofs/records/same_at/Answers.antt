@@ -1,6 +1,5 @@
 use native.Mathlib.Omega.{arith}
 use mathlib.Core.Path.{sym}
-use Prim.Native.Nat.{◌-◌}
 use Rattle.numerics.specs.CallTests.{agree, differ}
 use Rattle.gerg_file.proofs.Chain.{none_compared, next_same, not_same, all_same}
 use Rattle.gerg_file.proofs.records.same_at.Goals as goal

@@ -30,7 +30,7 @@ loop-i-smaller c = omega (arith, c.loop-i-test.true)
 pub loop-i-preserved : goal.loop-i-preserved
 loop-i-preserved c =
     let t = c.loop-i in
-    let k = c.Scan-step.ensures in
+    let k = c.scan_step-s.ensures in
     let g = c.loop-i-test.true in
     (omega (arith, t.invariant.0), omega (arith, g), omega (arith, t.invariant.2, k.most), k.densities, k.residuals, scans_turn _ _ _ _ t.i _ _ _ _ _ _ _ t.invariant.0 g t.invariant.5 k)
 

@@ -1,5 +1,4 @@
 use mathlib.Core.Path.{refl, sym}
-use Prim.Native.Nat.{◌-◌}
 use Rattle.gerg_tables.proofs.Some.{fault_found, no_fault_yet, no_fault}
 use native.Mathlib.Omega.{arith}
 use Rattle.gerg_tables.proofs.check.first_component_fault.Goals as goal

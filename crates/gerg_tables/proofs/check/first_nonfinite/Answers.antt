@@ -1,5 +1,5 @@
 use mathlib.Core.Path.{refl, sym}
-use Prim.Native.Nat.{◌+◌, ◌-◌}
+use Prim.Native.Nat.{◌+◌}
 use Rattle.gerg_tables.proofs.Some.{fault_found, no_fault_yet, no_fault, numbered_fault, no_numbered_fault}
 use native.Mathlib.Omega.{arith}
 use Rattle.gerg_tables.proofs.check.first_nonfinite.Goals as goal

@@ -1,6 +1,4 @@
 use mathlib.Core.Path.{refl, sym}
-use Prim.Native.Nat.{◌-◌}
-use Rattle.gerg_tables.specs.Check.{bad_number}
 use Rattle.gerg_tables.proofs.Some.{go, stop, done}
 use native.Mathlib.Omega.{arith}
 use Rattle.gerg_tables.proofs.check.some_bad_number_row.Goals as goal

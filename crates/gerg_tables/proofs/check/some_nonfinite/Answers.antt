@@ -1,5 +1,4 @@
 use mathlib.Core.Path.{refl, sym}
-use Prim.Native.Nat.{◌-◌}
 use Rattle.gerg_tables.specs.Check.{some_nonfinite}
 use Rattle.gerg_tables.proofs.Some.{go, stop, done}
 use native.Mathlib.Omega.{arith}

@@ -11,9 +11,9 @@ use Rattle.std.proofs.Common.{sym, ap, inl, inr, le_trans, le_of_eq, le_of_lt, m
 use Rattle.std.proofs.Math.Dec.{nleb→lt}
 use Rattle.numerics.specs.Frac.{Frac, ◌⊑◌, ◌⊏◌, ◌⊞◌, nat, ⊑_refl}
 use Rattle.numerics.specs.Series.{sum_top, sum_bot, sum_bot_pos, S, U, Above, above_by}
-use Rattle.numerics.specs.Limit.{cut, far_first, tail_small}
+use Rattle.numerics.specs.Limit.{far_first, tail_small}
 use Rattle.numerics.specs.Exponential.{Signed, size, sums, gain, loss, tail, Enough, AboveExp, BelowExp}
-use Rattle.numerics.specs.ExpBounds.{negatives, AtMost, AtLeast, at_most, at_least, least_most}
+use Rattle.numerics.proofs.ExpBounds.{negatives, AtMost, AtLeast, at_most, at_least, least_most}
 
 -- ---- the sum, what it loses and the tail over the one denominator sumBot (suc n)
 abbrev pub G : ℕ → Signed → ℕ

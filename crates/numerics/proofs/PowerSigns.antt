@@ -7,12 +7,12 @@ use Rattle.std.specs.Prelude.{◌≡◌, ◌↔◌, ℕ, ◌+◌, ◌*◌, ◌�
 use Rattle.std.proofs.Common.{ap, le_refl, arith}
 use Rattle.numerics.specs.Frac.{Frac, ◌⊑◌, nat}
 use Rattle.numerics.specs.Exponential.{Signed, raised, AboveExp, BelowExp, AboveLn, BelowLn}
-use Rattle.numerics.specs.ExpBounds.{below_above_exp}
-use Rattle.numerics.specs.ExponentialLaws.{exp_above_arg, exp_below_arg}
+use Rattle.numerics.proofs.ExpBounds.{below_above_exp}
+use Rattle.numerics.proofs.ExponentialLaws.{exp_above_arg, exp_below_arg}
 use Rattle.numerics.specs.Power.{product_bound, AbovePower, BelowPower}
-use Rattle.numerics.specs.ExponentOrder.{≼_trans}
-use Rattle.numerics.specs.LnBounds.{ln_order, ln_bounds, greater}
-use Rattle.numerics.specs.PowerExponents.{product, product_bound_mono, product_nonneg, product_nonpos, product_one}
+use Rattle.numerics.proofs.ExponentOrder.{≼_trans}
+use Rattle.numerics.proofs.LnBounds.{ln_order, ln_bounds, greater}
+use Rattle.numerics.proofs.PowerExponents.{product, product_bound_mono, product_nonneg, product_nonpos, product_one}
 
 -- ---- by the sign of t
 module _ (x : Frac) (X : 0 < x.top) (t : Signed) (q : Frac) where

@@ -13,11 +13,11 @@ use Rattle.numerics.specs.Law.{mono-⊠}
 use Rattle.numerics.specs.Rel.{less}
 use Rattle.numerics.specs.Exp.{Le, inv}
 use Rattle.numerics.specs.Exponential.{Signed, plus_of, minus_of, raised, lowered, BelowExp, AboveLn, LnWithin, LnReaches, LnNear}
-use Rattle.numerics.specs.ExpBounds.{at_least, least_most}
-use Rattle.numerics.specs.ExpBoundLaws.{split}
-use Rattle.numerics.specs.ExponentialLaws.{exp_above_arg, exp_below_arg}
-use Rattle.numerics.specs.Distance.{most_plus, ln_within_of, ln_within_neg}
-use Rattle.numerics.specs.Equivalence.{below_nonneg, above_neg}
+use Rattle.numerics.proofs.ExpBounds.{at_least, least_most}
+use Rattle.numerics.proofs.ExpBoundLaws.{split}
+use Rattle.numerics.proofs.ExponentialLaws.{exp_above_arg, exp_below_arg}
+use Rattle.numerics.proofs.Distance.{most_plus, ln_within_of, ln_within_neg}
+use Rattle.numerics.proofs.Equivalence.{below_nonneg, above_neg}
 
 pub ln_weaken : (d d' x : Frac) (r : Signed) → d ⊑ d' → LnWithin d x r → LnWithin d' x r
 ln_weaken d d' x r h w = record {

@@ -19,8 +19,8 @@ use Rattle.numerics.specs.Series.{sum_top, sum_bot, S, Above, Below, S-arg, abov
 use Rattle.numerics.specs.Law.{mono-⊠, zero_sum}
 use Rattle.numerics.specs.Exp.{Le, inv}
 use Rattle.numerics.specs.Exponential.{Signed, plus_of, minus_of, raised, lowered, Within, LnWithin}
-use Rattle.numerics.specs.ExpBoundSums.{◌≼◌, most_arg, least_arg}
-use Rattle.numerics.specs.ExpBounds.{positives, negatives, AtMost, AtLeast, at_most, at_least, least_most}
+use Rattle.numerics.proofs.ExpBoundSums.{◌≼◌, most_arg, least_arg}
+use Rattle.numerics.proofs.ExpBounds.{positives, negatives, AtMost, AtLeast, at_most, at_least, least_most}
 
 -- ---- e ^ x
 above_pos : (a h : Frac) → Above a h → 0 < h.top

@@ -5,9 +5,9 @@ use Rattle.numerics.specs.Frac.{Frac, ◌⊑◌, ◌⊞◌, ◌⊠◌, nat, ⊑_
 use Rattle.numerics.specs.Series.{S, Above, S-arg, above_arg}
 use Rattle.numerics.specs.Law.{mono-⊠, law_lower, law_upper, above_mul, over, above_div, power}
 use Rattle.numerics.specs.Exponential.{Signed}
-use Rattle.numerics.specs.ExpBounds.{positives, negatives, AtMost, AtLeast, at_most, at_least, cancel_exp}
+use Rattle.numerics.proofs.ExpBounds.{positives, negatives, AtMost, AtLeast, at_most, at_least, cancel_exp}
 use Rattle.numerics.specs.Tail.{S-one}
-use Rattle.numerics.specs.ExpBoundLaws.{t, exp_zero}
+use Rattle.numerics.proofs.ExpBoundLaws.{t, exp_zero}
 
 -- ---- monotony
 infix 4 ◌≼◌

@@ -14,10 +14,10 @@ use Rattle.numerics.specs.Frac.{Frac, ◌⊑◌, ◌⊏◌, ◌⊞◌, ◌⊠◌
 use Rattle.numerics.specs.Series.{sum_top, sum_bot, S, S-arg}
 use Rattle.numerics.specs.Law.{mono-⊠, law_upper, power}
 use Rattle.numerics.specs.Exponential.{Signed, size, AboveExp, BelowExp}
-use Rattle.numerics.specs.ExpBounds.{positives, negatives, AtMost, AtLeast, at_most, at_least}
-use Rattle.numerics.specs.ExpBoundLaws.{t, above_of_most, below_of_least, least_some, exp_zero}
-use Rattle.numerics.specs.ExpBoundSums.{◌≼◌, most_arg, least_arg, sum_of, most_sum, least_sum, times_of, next}
-use Rattle.numerics.specs.ExponentialRoom.{exp_above_pos, exp_above_more, exp_below_less, room_above, room_below, zero_of, one_below, one_above}
+use Rattle.numerics.proofs.ExpBounds.{positives, negatives, AtMost, AtLeast, at_most, at_least}
+use Rattle.numerics.proofs.ExpBoundLaws.{t, above_of_most, below_of_least, least_some, exp_zero}
+use Rattle.numerics.proofs.ExpBoundSums.{◌≼◌, most_arg, least_arg, sum_of, most_sum, least_sum, times_of, next}
+use Rattle.numerics.proofs.ExponentialRoom.{exp_above_pos, exp_above_more, exp_below_less, room_above, room_below, zero_of, one_below, one_above}
 
 -- ---- e ^ (x + y)
 times_less : (p p' q : Frac) → 0 < q.top → p ⊏ p' → p ⊠ q ⊏ p' ⊠ q

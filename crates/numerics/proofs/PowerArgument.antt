@@ -7,10 +7,10 @@ use Rattle.std.specs.Float.Ieee.Positive.{num, den}
 use Rattle.numerics.specs.Frac.{Frac, ◌⊑◌, ◌⊠◌, nat, less}
 use Rattle.numerics.specs.Fraction.{part, val}
 use Rattle.numerics.specs.Exponential.{Signed, signed, size, LnWithin, LnReaches, LnNear}
-use Rattle.numerics.specs.Logarithm.{rest, reach_plus, reach_minus}
-use Rattle.numerics.specs.ExpBoundLaws.{split}
+use Rattle.numerics.proofs.Logarithm.{rest, reach_plus, reach_minus}
+use Rattle.numerics.proofs.ExpBoundLaws.{split}
 use Rattle.numerics.specs.Power.{ProductWithin}
-use Rattle.numerics.specs.PowerExponents.{magnitude}
+use Rattle.numerics.proofs.PowerExponents.{magnitude}
 
 -- ---- |ln x| reaches |y| - d
 reach : (d x : Frac) (y : Float) → T (finite y) → d ⊑ val y → LnWithin d x (signed y) → LnReaches (less (val y) d) x

@@ -12,12 +12,12 @@ use Rattle.std.proofs.Math.Nat.{pow-zero}
 use Rattle.numerics.specs.Frac.{Frac, ◌⊑◌, ◌⊏◌, ◌⊞◌, ◌⊠◌, nat, ⊏-not}
 use Rattle.numerics.specs.Series.{sum_top, sum_bot}
 use Rattle.numerics.specs.Exponential.{Signed, plus_of, raised, AboveExp, BelowExp}
-use Rattle.numerics.specs.ExpBounds.{at_most, least_most}
-use Rattle.numerics.specs.ExpBoundLaws.{split, squeeze, least_some}
-use Rattle.numerics.specs.ExpBoundSums.{◌≼◌, sum_of}
-use Rattle.numerics.specs.ExponentialRoom.{exp_above_pos}
-use Rattle.numerics.specs.ExponentialLaws.{exp_below_arg, exp_below_sum}
-use Rattle.numerics.specs.Equivalence.{below_nonneg}
+use Rattle.numerics.proofs.ExpBounds.{at_most, least_most}
+use Rattle.numerics.proofs.ExpBoundLaws.{split, squeeze, least_some}
+use Rattle.numerics.proofs.ExpBoundSums.{◌≼◌, sum_of}
+use Rattle.numerics.proofs.ExponentialRoom.{exp_above_pos}
+use Rattle.numerics.proofs.ExponentialLaws.{exp_below_arg, exp_below_sum}
+use Rattle.numerics.proofs.Equivalence.{below_nonneg}
 
 -- ---- laws of the order
 chained : (p m b p' m' b' p'' m'' b'' : ℕ) → 0 < b' → p * b' + m' * b ≤ p' * b + m * b' → p' * b'' + m'' * b' ≤ p'' * b' + m' * b'' → p * b'' + m'' * b ≤ p'' * b + m * b''

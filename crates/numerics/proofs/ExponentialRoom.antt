@@ -6,8 +6,8 @@ use Rattle.numerics.specs.Frac.{Frac, ◌⊑◌, ◌⊏◌, ◌⊞◌, nat, ⊑_
 use Rattle.numerics.specs.Series.{sum_bot, sum_bot_pos, S}
 use Rattle.numerics.specs.Alternating.{both_powers}
 use Rattle.numerics.specs.Exponential.{Signed, size, powers, sums, gain, loss, tail, Enough, AboveExp, BelowExp}
-use Rattle.numerics.specs.ExpBounds.{AtMost, AtLeast, at_most, at_least, least_most, below_above_exp, by_sign, powers_up, powers_down, size_up, size_down}
-use Rattle.numerics.specs.ExpBoundLaws.{G, L, t, on, above_plain, below_plain, split, monus, least_some, exp_zero}
+use Rattle.numerics.proofs.ExpBounds.{AtMost, AtLeast, at_most, at_least, least_most, below_above_exp, by_sign, powers_up, powers_down, size_up, size_down}
+use Rattle.numerics.proofs.ExpBoundLaws.{G, L, t, on, above_plain, below_plain, split, monus, least_some, exp_zero}
 
 -- ---- a power's two parts differ by |x| ^ k
 powers_near : (k p m : ℕ) → ((powers k p m).0 ≤ (powers k p m).1 + (p - m + (m - p)) ^ k) × ((powers k p m).1 ≤ (powers k p m).0 + (p - m + (m - p)) ^ k)

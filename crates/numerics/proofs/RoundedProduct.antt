@@ -12,10 +12,10 @@ use Rattle.numerics.specs.Frac.{Frac, ◌⊑◌, ◌⊞◌, nat, part, ⊑_trans
 use Rattle.numerics.specs.Round.{val, closest_above}
 use Rattle.numerics.specs.Rounding.{HasSign, half_unit, round_half_unit, times, exact}
 use Rattle.numerics.specs.EitherSign.{round_neg, finite_neg, finite_of_value}
-use Rattle.numerics.specs.ExpBoundLaws.{split}
-use Rattle.numerics.specs.ExpBoundSums.{◌≼◌}
+use Rattle.numerics.proofs.ExpBoundLaws.{split}
+use Rattle.numerics.proofs.ExpBoundSums.{◌≼◌}
 use Rattle.numerics.specs.Exponential.{Signed, signed, plus_of, minus_of, raised, lowered}
-use Rattle.numerics.specs.PowerExponents.{product}
+use Rattle.numerics.proofs.PowerExponents.{product}
 
 -- a result of at most c has at most 1128 - r digits in units of 2 ^ -1074, and drops 1075 - r of them, so that half a unit in its last place is at most 2 ^ -r. Each line is computed
 pub record Rounds (c r : ℕ) : Type 0 where

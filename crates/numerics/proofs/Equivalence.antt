@@ -16,10 +16,10 @@ use Rattle.numerics.specs.Limit.{archimedes}
 use Rattle.numerics.specs.Tail.{S-one}
 use Rattle.numerics.specs.Exp.{inv}
 use Rattle.numerics.specs.Exponential.{Signed, plus_of, minus_of, size, AboveExp, BelowExp}
-use Rattle.numerics.specs.ExpBounds.{AtMost, AtLeast, at_most, at_least, least_most, of, up_below}
-use Rattle.numerics.specs.ExpBoundLaws.{above_of_most, below_of_least, least_some, exp_zero}
-use Rattle.numerics.specs.ExponentialRoom.{room_above, exp_above_more, exp_below_less, one_below}
-use Rattle.numerics.specs.Distance.{zero_one, most_plus, least_plus, most_minus, least_minus}
+use Rattle.numerics.proofs.ExpBounds.{AtMost, AtLeast, at_most, at_least, least_most, of, up_below}
+use Rattle.numerics.proofs.ExpBoundLaws.{above_of_most, below_of_least, least_some, exp_zero}
+use Rattle.numerics.proofs.ExponentialRoom.{room_above, exp_above_more, exp_below_less, one_below}
+use Rattle.numerics.proofs.Distance.{zero_one, most_plus, least_plus, most_minus, least_minus}
 
 -- ---- an order that holds up to every larger or smaller fraction holds
 from_larger : (s q : Frac) → ((r : Frac) → q ⊏ r → s ⊑ r) → s ⊑ q

@@ -3,8 +3,8 @@ use Rattle.std.specs.Prelude.{◌≡◌, refl, ℕ, ◌+◌, ◌*◌, ◌≤◌,
 use Rattle.std.proofs.Common.{sym, ◌∙◌, ap, subst, le_refl, le_antisymm, le_trans, le_of_eq, add-le-add, mul-pos, mul_comm, mul-le-mul_right, mul-le-mul_left, arith}
 use Rattle.numerics.specs.Frac.{Frac, ◌⊠◌}
 use Rattle.numerics.specs.Exponential.{Signed, plus_of, raised, lowered}
-use Rattle.numerics.specs.ExpBoundSums.{◌≼◌, sum_of, times_of}
-use Rattle.numerics.specs.ExponentOrder.{Equal, equal_of, equal_scaled}
+use Rattle.numerics.proofs.ExpBoundSums.{◌≼◌, sum_of, times_of}
+use Rattle.numerics.proofs.ExponentOrder.{Equal, equal_of, equal_scaled}
 use Rattle.numerics.specs.Power.{product_bound}
 
 -- ---- t⁺ l - t⁻ k grows with l and falls with k

@@ -7,9 +7,9 @@ use Rattle.numerics.specs.Frac.{Frac, nat, ⊑_refl}
 use Rattle.numerics.specs.Series.{sum_top, sum_bot, S, U, Above, Below, above_by, below_by}
 use Rattle.numerics.specs.Limit.{Far}
 use Rattle.numerics.specs.Exponential.{Signed, plus_of, minus_of, raised, lowered, powers, sums, Enough, AboveExp, BelowExp, LnWithin}
-use Rattle.numerics.specs.ExpBoundLaws.{G, L, t, on, above_plain, below_plain, monus}
-use Rattle.numerics.specs.ExpBoundSums.{most_arg, least_arg}
-use Rattle.numerics.specs.Distance.{most_plus, least_plus, ln_within}
+use Rattle.numerics.proofs.ExpBoundLaws.{G, L, t, on, above_plain, below_plain, monus}
+use Rattle.numerics.proofs.ExpBoundSums.{most_arg, least_arg}
+use Rattle.numerics.proofs.Distance.{most_plus, least_plus, ln_within}
 
 -- ---- the evaluator
 pub enclosed_nonneg : (n : ℕ) (a : Frac) → Far n a → Below a (S n a) × Above a (U n a)

@@ -8,19 +8,19 @@ use Rattle.std.proofs.Common.{sym, ap, subst, inl, inr, le_of_lt, mul-pos, mul-l
 use Rattle.numerics.specs.Frac.{Frac, ◌⊑◌, ◌⊠◌, nat, ⊑_refl, ⊑_trans}
 use Rattle.numerics.specs.Law.{mono-⊠}
 use Rattle.numerics.specs.Exponential.{Signed, plus_of, minus_of, size, AboveExp, BelowExp, AboveLn, BelowLn, LnReaches}
-use Rattle.numerics.specs.ExpBounds.{below_above_exp}
-use Rattle.numerics.specs.ExpBoundLaws.{split, exp_zero}
-use Rattle.numerics.specs.ExpBoundSums.{◌≼◌, sum_of}
-use Rattle.numerics.specs.ExponentialRoom.{exp_above_pos}
-use Rattle.numerics.specs.ExponentialLaws.{exp_above_arg, exp_below_arg, exp_below_sum}
+use Rattle.numerics.proofs.ExpBounds.{below_above_exp}
+use Rattle.numerics.proofs.ExpBoundLaws.{split, exp_zero}
+use Rattle.numerics.proofs.ExpBoundSums.{◌≼◌, sum_of}
+use Rattle.numerics.proofs.ExponentialRoom.{exp_above_pos}
+use Rattle.numerics.proofs.ExponentialLaws.{exp_above_arg, exp_below_arg, exp_below_sum}
 use Rattle.numerics.specs.Exp.{inv}
-use Rattle.numerics.specs.Equivalence.{below_nonneg, above_neg}
-use Rattle.numerics.specs.Logarithm.{reaches_minus}
+use Rattle.numerics.proofs.Equivalence.{below_nonneg, above_neg}
+use Rattle.numerics.proofs.Logarithm.{reaches_minus}
 use Rattle.numerics.specs.Power.{product_bound, AbovePower, BelowPower, ProductWithin}
-use Rattle.numerics.specs.ExponentOrder.{exp_order}
-use Rattle.numerics.specs.LnBounds.{ln_order}
-use Rattle.numerics.specs.PowerExponents.{product}
-use Rattle.numerics.specs.PowerSigns as signs
+use Rattle.numerics.proofs.ExponentOrder.{exp_order}
+use Rattle.numerics.proofs.LnBounds.{ln_order}
+use Rattle.numerics.proofs.PowerExponents.{product}
+use Rattle.numerics.proofs.PowerSigns as signs
 
 -- ln x ≤ -c from `LnReaches`
 above_of_reaches : (c x : Frac) → ((q : Frac) → BelowExp (plus_of c) q → q ⊠ x ⊑ nat 1) → AboveLn x (minus_of c)

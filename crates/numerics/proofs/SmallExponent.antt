@@ -10,11 +10,11 @@ use Rattle.numerics.specs.Frac.{Frac, ◌⊑◌, ◌⊏◌, ◌⊞◌, ◌⊠◌
 use Rattle.numerics.specs.Series.{sum_bot}
 use Rattle.numerics.specs.Law.{mono-⊠, power}
 use Rattle.numerics.specs.Exponential.{plus_of, minus_of, powers, sums, AboveExp, BelowExp}
-use Rattle.numerics.specs.ExpBounds.{below_above_exp}
-use Rattle.numerics.specs.ExpBoundLaws.{above_plain, below_plain}
-use Rattle.numerics.specs.ExpBoundSums.{times_of}
-use Rattle.numerics.specs.ExponentialLaws.{exp_above_arg, exp_below_times}
-use Rattle.numerics.specs.ExponentOrder.{exp_one_more}
+use Rattle.numerics.proofs.ExpBounds.{below_above_exp}
+use Rattle.numerics.proofs.ExpBoundLaws.{above_plain, below_plain}
+use Rattle.numerics.proofs.ExpBoundSums.{times_of}
+use Rattle.numerics.proofs.ExponentialLaws.{exp_above_arg, exp_below_times}
+use Rattle.numerics.proofs.ExponentOrder.{exp_one_more}
 
 -- ---- 1 - s - s ^ 2 ≤ e ^ -s and e ^ s ≤ 1 + s + s ^ 2, for s ≤ 1 / 2
 abbrev pub exp_upper : Frac → Frac

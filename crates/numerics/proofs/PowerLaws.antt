@@ -12,16 +12,16 @@ use Rattle.std.proofs.Common.{le_refl, le_of_lt, arith}
 use Rattle.numerics.specs.Frac.{Frac, ◌⊑◌, ◌⊏◌, ◌⊞◌, ◌⊠◌, nat, ⊑_refl, ⊑_trans, ⊏-not}
 use Rattle.numerics.specs.Law.{mono-⊠, power}
 use Rattle.numerics.specs.Exponential.{Signed, plus_of, raised, AboveExp, BelowExp, AboveLn, BelowLn}
-use Rattle.numerics.specs.ExpBounds.{at_most, at_least, least_most, below_above_exp}
-use Rattle.numerics.specs.ExpBoundLaws.{split, exp_zero}
-use Rattle.numerics.specs.ExpBoundSums.{sum_of, times_of, most_arg, least_arg, most_sum, least_sum, most_times, least_times}
-use Rattle.numerics.specs.ExponentialRoom.{exp_above_more, exp_below_less}
-use Rattle.numerics.specs.ExponentialLaws.{exp_above_arg, exp_below_arg, exp_above_sum, exp_below_sum}
+use Rattle.numerics.proofs.ExpBounds.{at_most, at_least, least_most, below_above_exp}
+use Rattle.numerics.proofs.ExpBoundLaws.{split, exp_zero}
+use Rattle.numerics.proofs.ExpBoundSums.{sum_of, times_of, most_arg, least_arg, most_sum, least_sum, most_times, least_times}
+use Rattle.numerics.proofs.ExponentialRoom.{exp_above_more, exp_below_less}
+use Rattle.numerics.proofs.ExponentialLaws.{exp_above_arg, exp_below_arg, exp_above_sum, exp_below_sum}
 use Rattle.numerics.specs.Power.{product_bound, AbovePower, BelowPower}
-use Rattle.numerics.specs.ExponentOrder.{raised_is, exp_enclosed}
-use Rattle.numerics.specs.LnBounds.{ln_order, ln_bounds, lesser, greater, ln_least, ln_most}
-use Rattle.numerics.specs.SmallExponent.{exp_upper, exp_upper_above, power_mono, power_times, shared, power_exp_upper, room_for}
-use Rattle.numerics.specs.PowerExponents.{product_bound_mono, product_bound_sum, product_bound_times, step, Apart, apart, gap_above, gap_below, gap_product}
+use Rattle.numerics.proofs.ExponentOrder.{raised_is, exp_enclosed}
+use Rattle.numerics.proofs.LnBounds.{ln_order, ln_bounds, lesser, greater, ln_least, ln_most}
+use Rattle.numerics.proofs.SmallExponent.{exp_upper, exp_upper_above, power_mono, power_times, shared, power_exp_upper, room_for}
+use Rattle.numerics.proofs.PowerExponents.{product_bound_mono, product_bound_sum, product_bound_times, step, Apart, apart, gap_above, gap_below, gap_product}
 
 -- ---- order
 pub power_order : (x : Frac) (t : Signed) (p q : Frac) → BelowPower x t p → AbovePower x t q → p ⊑ q

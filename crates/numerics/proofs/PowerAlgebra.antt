@@ -11,7 +11,7 @@ use Rattle.numerics.specs.Frac.{Frac, ◌⊑◌, ◌⊏◌, ◌⊞◌, ◌⊠◌
 use Rattle.numerics.specs.Law.{power}
 use Rattle.numerics.specs.Exponential.{Signed, plus_of, minus_of}
 use Rattle.numerics.specs.Power.{AbovePower, BelowPower, PowerWithin}
-use Rattle.numerics.specs.PowerLaws.{power_above, power_below, power_above_back, power_below_back}
+use Rattle.numerics.proofs.PowerLaws.{power_above, power_below, power_above_back, power_below_back}
 
 -- q lies above x ^ t only where a ≤ b q, and wherever a < b q; below only where b q ≤ a, and wherever b q < a
 pub record Algebraic (x : Frac) (t : Signed) (a : Frac) (b : Frac → Frac) : Type 0 where

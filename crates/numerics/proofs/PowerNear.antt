@@ -5,15 +5,15 @@ use Rattle.std.proofs.Common.{le_refl, mul-pos, mul-le-mul_right, mul-le-mul_lef
 use Rattle.numerics.specs.Frac.{Frac, ◌⊑◌, ◌⊞◌, ◌⊠◌, nat, ⊑_refl, ⊑_trans}
 use Rattle.numerics.specs.Law.{mono-⊠}
 use Rattle.numerics.specs.Exponential.{Signed, plus_of, minus_of, raised, lowered, Within, LnWithin}
-use Rattle.numerics.specs.ExpBounds.{below_above_exp}
-use Rattle.numerics.specs.ExpBoundLaws.{exp_zero}
-use Rattle.numerics.specs.ExpBoundSums.{◌≼◌, sum_of}
-use Rattle.numerics.specs.ExponentialLaws.{exp_above_arg, exp_below_arg, exp_above_sum, exp_below_sum}
+use Rattle.numerics.proofs.ExpBounds.{below_above_exp}
+use Rattle.numerics.proofs.ExpBoundLaws.{exp_zero}
+use Rattle.numerics.proofs.ExpBoundSums.{◌≼◌, sum_of}
+use Rattle.numerics.proofs.ExponentialLaws.{exp_above_arg, exp_below_arg, exp_above_sum, exp_below_sum}
 use Rattle.numerics.specs.Power.{product_bound, AbovePower, BelowPower, PowerWithin}
-use Rattle.numerics.specs.ExponentOrder.{≼_trans, raised_mono, raised_is}
-use Rattle.numerics.specs.LnBounds.{ln_order}
-use Rattle.numerics.specs.SmallExponent.{exp_upper, exp_lower, exp_upper_above, exp_lower_below, lower_rest}
-use Rattle.numerics.specs.PowerExponents.{product, magnitude, product_bound_mono, product_raised, product_lowered}
+use Rattle.numerics.proofs.ExponentOrder.{≼_trans, raised_mono, raised_is}
+use Rattle.numerics.proofs.LnBounds.{ln_order}
+use Rattle.numerics.proofs.SmallExponent.{exp_upper, exp_lower, exp_upper_above, exp_lower_below, lower_rest}
+use Rattle.numerics.proofs.PowerExponents.{product, magnitude, product_bound_mono, product_raised, product_lowered}
 
 -- ---- the exponents, from a + c ≤ s
 apart : (y : Signed) (a c s : Frac) → a ⊞ c ⊑ s → raised y c ≼ raised (lowered y a) s

@@ -14,12 +14,12 @@ use Rattle.numerics.specs.Series.{sum_top, sum_bot, S}
 use Rattle.numerics.specs.Exp.{inv}
 use Rattle.numerics.specs.Limit.{archimedes}
 use Rattle.numerics.specs.Exponential.{Signed, plus_of, minus_of, raised, AboveLn, BelowLn}
-use Rattle.numerics.specs.ExpBounds.{positives, negatives, AtMost, AtLeast, at_most, at_least, below_above_exp}
-use Rattle.numerics.specs.ExpBoundLaws.{split, squeeze}
-use Rattle.numerics.specs.ExpBoundSums.{◌≼◌}
-use Rattle.numerics.specs.ExponentialLaws.{exp_above_arg, exp_below_arg}
-use Rattle.numerics.specs.Equivalence.{above_neg}
-use Rattle.numerics.specs.ExponentOrder.{exp_enclosed, exp_one_more, exp_below_raised, exp_order}
+use Rattle.numerics.proofs.ExpBounds.{positives, negatives, AtMost, AtLeast, at_most, at_least, below_above_exp}
+use Rattle.numerics.proofs.ExpBoundLaws.{split, squeeze}
+use Rattle.numerics.proofs.ExpBoundSums.{◌≼◌}
+use Rattle.numerics.proofs.ExponentialLaws.{exp_above_arg, exp_below_arg}
+use Rattle.numerics.proofs.Equivalence.{above_neg}
+use Rattle.numerics.proofs.ExponentOrder.{exp_enclosed, exp_one_more, exp_below_raised, exp_order}
 
 pub above_ln_up : (x : Frac) (l k : Signed) → l ≼ k → AboveLn x l → AboveLn x k
 above_ln_up x l k h a q b = a q (exp_above_arg l k q h b)
