@@ -1,5 +1,5 @@
 -- The reducing volume and temperature of a mixture, and their gradients. Row 0 is the volume, row 1 the temperature.
-use Rattle.std.specs.Prelude.{◌||◌, List, [], ◌∷◌, ℕ, ◌+◌, ◌≤◌, eqb, Float, get_or, set, replicate}
+use Rattle.std.specs.Prelude.{◌||◌, List, [], ◌∷◌, ℕ, eqb, Float, get_or, set, replicate}
 use Rattle.std.specs.Float.{nan}
 use Rattle.std.specs.Float.Ieee.{eq}
 use Rattle.numerics.specs.Double.{◌⊕◌, ◌⊖◌, ◌⊗◌, ◌⊘◌, +0, one, two, pick}

@@ -1,7 +1,7 @@
 -- The grid has at most 386 points. Assumes nothing.
 use mathlib.Core.Bool.{Bool, true, false}
 use mathlib.Core.List.{List, [], ◌∷◌, ◌++◌}
-use Prim.Native.Nat.{ℕ, ◌+◌, ◌≤◌}
+use Prim.Native.Nat.{◌+◌, ◌≤◌}
 use lib.Ieee.{Float, nan}
 use lib.ListN.{length, get_or}
 use Rattle.numerics.specs.Double.{pick}

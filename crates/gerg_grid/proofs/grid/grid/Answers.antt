@@ -1,8 +1,7 @@
 use native.Mathlib.Omega.{arith}
 use Rattle.numerics.specs.Iterate.{iter_begins, iter_turn, iter_done}
 use lib.Ieee.{Float, nan}
-use lib.ListN.{length, take, get_or}
-use Prim.Native.Nat.{◌-◌}
+use lib.ListN.{take, get_or}
 use mathlib.Core.List.{List}
 use mathlib.Core.Path.{refl, ap, ◌∙◌}
 use Rattle.gerg_grid.specs.Grid.{kept, grid_of}

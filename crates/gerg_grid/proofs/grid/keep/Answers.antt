@@ -1,6 +1,6 @@
 -- `gerg_grid::grid::keep` meets its contract. Assumes nothing.
 use native.Mathlib.Omega.{arith}
-use lib.ListN.{length, take, length-set}
+use lib.ListN.{take, length-set}
 use mathlib.Core.Bool.{true, false}
 use mathlib.Core.Path.{◌≡◌, sym, ◌∙◌}
 use Rattle.gerg_grid.proofs.Laws.Front.{front_more}

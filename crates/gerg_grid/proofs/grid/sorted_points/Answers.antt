@@ -1,6 +1,5 @@
 use native.Mathlib.Omega.{arith}
 use lib.Ieee.{Float}
-use Prim.Native.Nat.{◌-◌}
 use mathlib.Core.Path.{refl, ap, ◌∙◌}
 use Rattle.gerg_grid.specs.GridArray.{insert_from}
 use Rattle.gerg_grid.proofs.Laws.Insertion.{sorts_begin, sorts_turn, sorts_done}

@@ -1,6 +1,5 @@
-use Prim.Native.Nat.{◌-◌}
 use Rattle.numerics.specs.Iterate.{iter_begins, iter_turn, iter_done}
-use Rattle.gerg_reducing.specs.Reducing.{gradient_row, gradient_of}
+use Rattle.gerg_reducing.specs.Reducing.{gradient_of}
 use native.Mathlib.Omega.{arith}
 use Rattle.gerg_reducing.proofs.gradients.gradient.Goals as goal
 

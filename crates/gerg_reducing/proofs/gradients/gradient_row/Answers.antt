@@ -1,6 +1,5 @@
-use Prim.Native.Nat.{◌-◌}
 use Rattle.numerics.specs.Iterate.{range_begins, range_turn, range_done}
-use Rattle.gerg_reducing.specs.Reducing.{gradient_pair, gradient_row}
+use Rattle.gerg_reducing.specs.Reducing.{gradient_row}
 use native.Mathlib.Omega.{arith}
 use Rattle.gerg_reducing.proofs.gradients.gradient_row.Goals as goal
 

@@ -1,4 +1,3 @@
-use Prim.Native.Nat.{◌-◌}
 use Rattle.numerics.specs.Iterate.{range_begins, range_turn, range_done}
 use Rattle.gerg_reducing.specs.Reducing.{reducing_row}
 use native.Mathlib.Omega.{arith}
