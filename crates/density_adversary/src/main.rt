@@ -1,6 +1,9 @@
 // Drives the search's step by verdicts made up to keep the bracket as wide as can be, and prints how each search ends: the number of
 // the refusal and the trials made. No search makes more than 600 trials.
+#![tactic(auto)]
+
 use gerg_search::{Bracket, Options, Sample, Search, Stage, Step};
+use std::io;
 
 // How a driven search ended; number 0 is an acceptance, 255 a search that was not over after 1000 steps.
 #[derive(Clone, Copy)]
@@ -97,27 +100,24 @@ fn drive(lo: f64, hi: f64, limit: usize) -> Ended {
     }
 }
 
-fn report(lo: f64, hi: f64, limit: usize) {
-    let e = drive(lo, hi, limit);
-    io::print_decimal(1, e.number as u64);
-    io::write_all(1, b" ");
-    io::print_decimal(1, e.trials as u64);
-    io::write_all(1, b"\n");
+fn report(rt: &impl Print, lo: f64, hi: f64, limit: usize) -> io::Result<()> {
+    let Ended { number, trials } = drive(lo, hi, limit);
+    println!(rt; "{number} {trials}")
 }
 
-fn main() {
+fn main(rt: HostRuntime) -> io::Result<()> {
     // the whole range, without and with a limit that is met
-    report(1e-3, 30000.0, 18446744073709551615);
-    report(1e-3, 30000.0, 600);
-    report(1e-3, 30000.0, 100);
-    report(1e-3, 30000.0, 1);
+    report(&rt, 1e-3, 30000.0, 18446744073709551615)?;
+    report(&rt, 1e-3, 30000.0, 600)?;
+    report(&rt, 1e-3, 30000.0, 100)?;
+    report(&rt, 1e-3, 30000.0, 1)?;
     // narrower brackets
-    report(1e-3, 2e-3, 18446744073709551615);
-    report(1.0, 1.0001, 18446744073709551615);
-    report(29999.0, 30000.0, 18446744073709551615);
+    report(&rt, 1e-3, 2e-3, 18446744073709551615)?;
+    report(&rt, 1.0, 1.0001, 18446744073709551615)?;
+    report(&rt, 29999.0, 30000.0, 18446744073709551615)?;
     // two doubles apart, and neighbours, across a power of two and within one
-    report(1.0, 1.0000000000000004, 18446744073709551615);
-    report(1.0, 1.0000000000000002, 18446744073709551615);
-    report(0.9999999999999999, 1.0, 18446744073709551615);
-    report(1.0000000000000002, 1.0000000000000004, 1);
+    report(&rt, 1.0, 1.0000000000000004, 18446744073709551615)?;
+    report(&rt, 1.0, 1.0000000000000002, 18446744073709551615)?;
+    report(&rt, 0.9999999999999999, 1.0, 18446744073709551615)?;
+    report(&rt, 1.0000000000000002, 1.0000000000000004, 1)
 }
