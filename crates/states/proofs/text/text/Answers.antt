@@ -1,5 +1,5 @@
 -- The text of an input that is cut before its file begins, or of its parts.
-use Rattle.std.proofs.Common.{arith, length}
+use Rattle.std.proofs.Common.{arith}
 use lib.ListN.{length-replicate}
 use Rattle.states.proofs.Input.{cut_head, whole_report}
 use Rattle.states.proofs.text.text.Goals as goal
