@@ -122,7 +122,7 @@ class Source:
         blocks = re.findall(r"(?:^ *//[^\n]*\n)*(?:^#\[[^\n]*\n)*^pub (?:struct|enum) \w+[^{;]*(?:\{.*?^\}|;)", source, re.M | re.S)
         self.blocks = {re.search(r"^pub (?:struct|enum) (\w+)", block, re.M)[1]: len([line for line in block.splitlines() if line.strip() and not line.startswith("#[")]) for block in blocks}
         self.contracts = []
-        for m in re.finditer(r"^( *)(pub )?(extern \"C\" )?fn (\w+)[^{]*?\)(?: -> [^{]*?)?\n((?:\1    (?:requires|ensures).*\n(?:\1        .*\n)*)*)", plain, re.M):
+        for m in re.finditer(r"^( *)(pub )?(extern \"C\" )?fn (\w+)[^{]*?\)(?: -> [^{]*?)?\n((?:\1    (?:requires|ensures).*\n(?:\1        .*\n|\1    \}\n)*)*)", plain, re.M):
             self.contracts.append((m[4], bool(m[2]), bool(m[3]), m[5]))
         # the crate that each type of another one is taken from
         self.taken = {word: m[1] for m in re.finditer(r"^use (\w+)::((?:[^;])+);", plain, re.M) for word in re.findall(r"\w+", m[2])}
