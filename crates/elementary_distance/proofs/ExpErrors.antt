@@ -1,9 +1,8 @@
 -- The errors of the exponential's reduction together: the three roundings move the exponent by at most 4 / (2 ^ 53 - 1), over one denominator. Assumes nothing.
 use mathlib.Core.Path.{◌≡◌, refl, ap}
-use Prim.Native.Nat.{ℕ, suc, ◌+◌, ◌-◌, ◌*◌, ◌^◌, ◌≤◌, ◌<◌}
+use Prim.Native.Nat.{ℕ, suc, ◌+◌, ◌-◌, ◌*◌, ◌≤◌, ◌<◌}
 use native.Mathlib.Nat.{mul-pos, le_of_mul-le-mul_right, sub-add_cancel}
 use native.Mathlib.Omega.{arith}
-use lib.Pow.{pow_pos}
 use Rattle.numerics.specs.Frac.{Frac, ◌⊑◌, ◌⊞◌, nat, small, small_suc, small_pos, Under, Close}
 use Rattle.numerics.specs.Common.{On, on_le, le_on, on_add, on_under}
 use Rattle.numerics.specs.Bound.{off}

@@ -1,10 +1,9 @@
 -- The remainder of the exponential's reduction: with m = u - zeroSteps exactly, m * hi exactly, and m * lo rounded, v = x - m * hi and r = v - m * lo are each one rounding of a
 -- difference that lies between 0.00199 and 0.01401. So r is above zero and never tiny, whatever the signs of x and m. Assumes nothing.
-use mathlib.Core.Path.{◌≡◌, refl, ap, ap₂, ◌∙◌}
+use mathlib.Core.Path.{◌≡◌, ap, ap₂, ◌∙◌}
 use Prim.Native.Nat.{ℕ, ◌+◌, ◌-◌, ◌*◌, ◌^◌, ◌≤◌, ◌<◌}
 use native.Mathlib.Nat.{mul-pos, mul-le-mul_right, le_of_mul-le-mul_right}
 use native.Mathlib.Omega.{arith}
-use lib.IntN.{pos}
 use lib.Dec.{lit≤}
 use lib.Ieee.{Float, binary64, sub, mul}
 use lib.Ieee.Positive.{num, den, den_pos, positive-finite}

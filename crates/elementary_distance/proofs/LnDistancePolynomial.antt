@@ -1,7 +1,7 @@
 -- The polynomial of ln in binary64: `ln_ratio` at a double two roundings from s is 25 roundings from 2 s + 2 s^3 / 3 + 2 s^5 / 5 + 2 s^7 / 7. Assumes nothing.
 use mathlib.Core.Path.{◌≡◌, ap, ◌∙◌}
 use mathlib.Core.Logic.{◌⊎◌, inl, inr}
-use Prim.Native.Nat.{ℕ, ◌+◌, ◌-◌, ◌*◌, ◌^◌, ◌≤◌, ◌<◌}
+use Prim.Native.Nat.{ℕ, ◌+◌, ◌*◌, ◌^◌, ◌≤◌, ◌<◌}
 use native.Mathlib.Nat.{le_refl, le_trans, le_of_eq, zero-mul, mul-le-mul, mul-le-mul_right, mul-le-mul_left}
 use native.Mathlib.Omega.{arith}
 use lib.Dec.{lit≤}

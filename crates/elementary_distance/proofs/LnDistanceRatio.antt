@@ -7,7 +7,7 @@ use native.Mathlib.Omega.{arith}
 use mathlib.Core.Bool.{false}
 use lib.Dec.{T, lit≤}
 use lib.Pow.{pow_pos}
-use lib.Ieee.{Float, binary64, up, down, round, add, sub, div}
+use lib.Ieee.{Float, binary64, round, add, sub, div}
 use lib.Ieee.Exact.{HasValue, round_exact}
 use lib.Ieee.Scale.{round_same}
 use lib.Ieee.Order.{transfer}

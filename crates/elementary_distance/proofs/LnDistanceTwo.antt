@@ -1,7 +1,7 @@
 -- The powers of a fraction just below 2 are those of 2 to one rounding, up to the exponent 1074 of the least subnormal.
 -- Assumes nothing.
 use mathlib.Core.Path.{sym, ◌∙◌}
-use Prim.Native.Nat.{ℕ, ◌-◌, ◌^◌, ◌≤◌}
+use Prim.Native.Nat.{ℕ, ◌^◌, ◌≤◌}
 use native.Mathlib.Nat.{le_of_eq, mul-one}
 use lib.Dec.{lit≤}
 use Rattle.numerics.specs.Frac.{◌⊑◌, ◌⊠◌, nat, big, small}

@@ -1,12 +1,11 @@
 -- Whole numbers of 53 digits: the one nearest to a root, the next to it, and the middle of two, squared. Assumes nothing.
-use mathlib.Core.Path.{◌≡◌, refl, sym, ap, ◌∙◌}
+use mathlib.Core.Path.{◌≡◌, sym, ap, ◌∙◌}
 use mathlib.Core.Bool.{Bool, true, false, not}
 use Prim.Native.Nat.{ℕ, suc, ◌+◌, ◌-◌, ◌*◌, ◌/◌, ◌^◌, ◌≤◌, ◌<◌}
 use native.Mathlib.Nat.{le_of_suc-le-suc, lt_of_not-le, lt_irrefl, lt_of_lt_of_le, lt_of_le_of_lt, le_trans, le_of_eq, mul-le-mul, mul-le-mul_right, mul-lt-mul_of_pos_right, lt_of_mul-lt-mul_right, mul_assoc, mul-pos, pow-suc, sub-add_cancel}
 use native.Mathlib.Omega.{arith}
 use lib.Dec.{T, leb, leb→le, nleb→lt}
 use lib.Pow.{pow_pos, pow_mono, pow-add}
-use lib.Ieee.{up}
 use Rattle.elementary_sqrt.specs.Sqrt.{root_of, nearest_root}
 use Rattle.elementary_sqrt.proofs.Root.{Root, root_is}
 

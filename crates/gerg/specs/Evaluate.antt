@@ -1,5 +1,5 @@
 -- The properties of a homogeneous state from its derivatives, and rows 10 to 12 in the Rust's order.
-use Rattle.std.specs.Prelude.{Bool, true, false, not, ◌&&◌, ◌||◌, ℕ, Float}
+use Rattle.std.specs.Prelude.{Bool, not, ◌&&◌, ◌||◌, Float}
 use Rattle.std.specs.Float.Ieee.{le, eq, neg}
 use Rattle.std.specs.Float.Ieee.Scale.{finite}
 use Rattle.numerics.specs.Double.{◌⊕◌, ◌⊖◌, ◌⊗◌, ◌⊘◌, bits, +0, one, two, pick}

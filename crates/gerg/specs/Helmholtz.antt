@@ -1,5 +1,5 @@
 -- Rows 6 to 9, and the nine derivatives at a temperature and a molar density where they pass.
-use Rattle.std.specs.Prelude.{Bool, true, false, not, ◌&&◌, Float}
+use Rattle.std.specs.Prelude.{Bool, not, ◌&&◌, Float}
 use Rattle.std.specs.Float.Ieee.{le}
 use Rattle.std.specs.Float.Ieee.Scale.{finite}
 use Rattle.numerics.specs.Double.{bits, +0, pick}

@@ -1,4 +1,6 @@
 // What the C exports make of an answer: number × 2^32 + value, and the doubles that an accepted one leaves in lent memory.
+#![tactic(auto)]
+
 ghost use Rattle.std.specs.Prelude.{◌≡◌};
 ghost use Rattle.gerg_answers.specs.Answers as is;
 

@@ -1,4 +1,5 @@
 // The public calls `properties`, `fugacity` and `density`. Each starts from the coefficient file's bytes, the component list and the fractions, and meets rows 1 to 5 first.
+#![tactic(auto)]
 
 pub mod density;
 pub mod fugacity;

@@ -2,18 +2,16 @@
 use mathlib.Core.Path.{◌≡◌, refl, sym, ap, ◌∙◌}
 use mathlib.Core.Bool.{Bool, true, false}
 use mathlib.Core.List.{List}
-use Prim.Native.Nat.{ℕ, ◌≤◌, ◌<◌}
+use Prim.Native.Nat.{ℕ}
 use native.Mathlib.Omega.{arith}
 use borrow.Author.Tests.{leb-true, leb-false}
 use lib.Dec.{leb}
 use lib.ListN.{length, take}
 use lib.Seq.{take_all}
 use Rattle.gerg_file.specs.File.{file_of}
-use Rattle.gerg_file.specs.declared.File.{File}
 use Rattle.gerg_file.specs.declared.File.TheVariants.{Malformed}
 use Rattle.gerg_file.proofs.Laws.Cut.{cut_file}
 use Rattle.gerg_coefficients.specs.Answer.{answer_as, answer_of, tables_as, tables_of}
-use Rattle.gerg_coefficients.specs.TableFile.{table_file_of}
 
 -- what both have where the file is refused at one offset
 module _ (s t : List ℕ) (at : ℕ) (e : file_of s ≡ Malformed at) (f : file_of t ≡ Malformed at) where

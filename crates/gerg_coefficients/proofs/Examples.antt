@@ -3,7 +3,7 @@ use mathlib.Core.Path.{◌≡◌, refl, ap}
 use mathlib.Core.List.{[], ◌∷◌}
 use Rattle.gerg_coefficients.specs.declared.Answer.TheVariants.{Refused}
 use Rattle.gerg_file.specs.Kinds as Kinds
-use Rattle.gerg_file.specs.File.{revision, chain, same_at, after_revision, after_components, after_terms, after_pairs, function_count, after_functions, after_departures, verdict, file_of}
+use Rattle.gerg_file.specs.File.{revision, chain, same_at, after_revision, after_components, after_terms, after_pairs, after_functions, after_departures, verdict, file_of}
 use Rattle.gerg_coefficients.specs.Answer.{number_of, value_of, answer_as, answer_of}
 
 -- "empty file: 1 at 0"

@@ -1,15 +1,15 @@
 -- What stands at a place of the two arrays.
-use mathlib.Core.Path.{◌≡◌, refl, sym, ap, ◌∙◌}
+use mathlib.Core.Path.{◌≡◌, sym, ap, ◌∙◌}
 use mathlib.Core.Bool.{Bool, true, false, cond}
 use mathlib.Core.List.{List, ◌++◌}
-use Prim.Native.Nat.{ℕ, zero, suc, ◌+◌, ◌*◌, ◌≤◌, ◌<◌}
+use Prim.Native.Nat.{ℕ, zero, suc, ◌+◌, ◌*◌, ◌<◌}
 use native.Mathlib.Omega.{arith}
 use borrow.Author.Count.{below_more}
 use lib.ListN.{length, get_or, replicate, get_or-replicate, get_or-append}
 use lib.Seq.{get_or-append-add}
-use lib.Ieee.{Float, nan}
+use lib.Ieee.{nan}
 use Rattle.numerics.specs.Double.{+0}
-use Rattle.numerics.specs.Fill.{tabulate, get_d_tabulate}
+use Rattle.numerics.specs.Fill.{get_d_tabulate}
 use Rattle.gerg_file.specs.Bytes.{byte, double_at}
 use Rattle.gerg_coefficients.specs.Load.{flat, doubles_at, bytes_at, run_of, Records, present, place, row_of}
 use Rattle.gerg_coefficients.proofs.Put.{length_flat, length_doubles_at, length_bytes_at, room}

@@ -1,18 +1,17 @@
 -- Each number of the tables of a layout, by its place in the flat arrays: the file's number in the record that holds it, or 0 where there is none.
-use mathlib.Core.Path.{◌≡◌, refl, sym, ap, ◌∙◌}
-use mathlib.Core.Bool.{Bool, cond}
+use mathlib.Core.Path.{◌≡◌, refl, ap, ◌∙◌}
+use mathlib.Core.Bool.{cond}
 use mathlib.Core.List.{List, ◌++◌}
 use Prim.Native.Nat.{ℕ, ◌+◌, ◌*◌, ◌<◌}
 use native.Mathlib.Omega.{arith}
-use native.Mathlib.Nat.{mul-le-mul}
-use lib.ListN.{length, get_or}
+use lib.ListN.{get_or}
 use lib.Ieee.{Float, nan}
 use Rattle.numerics.specs.Double.{+0}
 use Rattle.gerg_file.specs.Kinds as Kinds
 use Rattle.gerg_file.specs.Bytes.{byte, double_at}
 use Rattle.gerg_file.specs.declared.Layout.{Layout}
 use Rattle.gerg_coefficients.specs.Load.{Records, present, place, critical_of, critical, ideal, counts, terms, term_doubles, term_integers, pairs, pair_doubles, pair_integers, functions, function_integers, departures, departure_doubles, departure_integers, doubles, integers}
-use Rattle.gerg_coefficients.proofs.Put.{length_flat, length_critical}
+use Rattle.gerg_coefficients.proofs.Put.{length_critical}
 use Rattle.gerg_coefficients.proofs.Whole.{length_ideal, length_terms, length_pairs, length_counts, length_term_bytes, length_pair_bytes, length_functions}
 use Rattle.gerg_coefficients.proofs.Lookup.{in_first, in_second, get_flat, get_run_double, get_run_byte, get_row_byte, get_rows, get_byte_rows}
 

@@ -1,8 +1,8 @@
 -- Each named reader on the tables of a file gives the file's number, where the file has the record: one law a record kind, over its fields.
-use mathlib.Core.Path.{◌≡◌, refl, sym, ap, ◌∙◌}
+use mathlib.Core.Path.{◌≡◌, refl, ap, ◌∙◌}
 use mathlib.Core.Bool.{Bool, true, ◌&&◌, cond}
 use mathlib.Core.List.{List}
-use Prim.Native.Nat.{ℕ, zero, suc, ◌+◌, ◌-◌, ◌*◌, ◌≤◌, ◌<◌}
+use Prim.Native.Nat.{ℕ, ◌+◌, ◌*◌, ◌≤◌, ◌<◌}
 use native.Mathlib.Omega.{arith}
 use borrow.Author.Tests.{lt-ltb, le-leb}
 use lib.Dec.{leb, ltb}
@@ -12,10 +12,9 @@ use Rattle.numerics.specs.Double.{+0}
 use Rattle.gerg_file.specs.Kinds as Kinds
 use Rattle.gerg_file.specs.Bytes.{byte, double_at}
 use Rattle.gerg_file.specs.File.{file_of}
-use Rattle.gerg_file.specs.Counts.{sum, terms_of, departures_of, component_record}
+use Rattle.gerg_file.specs.Counts.{terms_of, departures_of, component_record}
 use Rattle.gerg_file.proofs.Begins.{term_record, pair_record, function_record, departure_record}
-use Rattle.gerg_file.specs.declared.File.{File}
-use Rattle.gerg_file.specs.declared.File.TheVariants.{Malformed, WellFormed}
+use Rattle.gerg_file.specs.declared.File.TheVariants.{WellFormed}
 use Rattle.gerg_file.specs.declared.Layout.{Layout}
 use Rattle.gerg_tables.specs.declared.Tables.{Tables}
 use Rattle.gerg_tables.specs.Tables.{tc, mmi_gerg, n0i, th0i, noik, toik, btij, bvij, gtij, gvij, fij, cijk, eijk, gijk, nijk, tijk, kpol, kexp, coik, doik, m_numb, kpolij, kexpij, dijk}

@@ -4,7 +4,6 @@ use Rattle.std.specs.Float.Ieee.Scale.{finite}
 use Rattle.gerg_file.specs.Kinds as Kinds
 use Rattle.gerg_file.specs.Bytes.{double_at}
 use Rattle.gerg_file.specs.Counts.{sum}
-use Rattle.gerg_coefficients.specs.Load.{doubles}
 
 -- an array of n entries that holds l, and then zeros
 unfoldable pub padded : {A : Type 0} → ℕ → A → List A → List A

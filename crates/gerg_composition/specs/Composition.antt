@@ -1,5 +1,5 @@
 -- The composition derivative of the residual Helmholtz energy, absent species included.
-use Rattle.std.specs.Prelude.{Bool, true, false, ◌&&◌, ◌||◌, List, ℕ, ◌+◌, ◌-◌, leb, Float, get_or, set, replicate}
+use Rattle.std.specs.Prelude.{Bool, ◌&&◌, ◌||◌, List, ℕ, ◌+◌, ◌-◌, leb, Float, get_or, set, replicate}
 use Rattle.std.specs.Float.{nan}
 use Rattle.std.specs.Float.Ieee.{eq, neg}
 use Rattle.numerics.specs.Double.{◌⊕◌, ◌⊗◌, +0, pick}

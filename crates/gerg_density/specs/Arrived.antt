@@ -1,5 +1,5 @@
 -- What holds of an accepted density.
-use Rattle.std.specs.Prelude.{◌≡◌, false, zero, T, Float, length}
+use Rattle.std.specs.Prelude.{◌≡◌, false, T, Float, length}
 use Rattle.std.specs.Float.Ieee.{lt, le}
 use Rattle.std.specs.Float.Ieee.Positive.{positive}
 use Rattle.numerics.specs.Double.{+0}

@@ -1,6 +1,5 @@
 -- The search after rows 13 and 14.
 use Rattle.std.specs.Prelude.{◌≡◌, ◌^◌, ◌<◌, false, Float, length}
-use Rattle.std.specs.Float.Ieee.{fits}
 use Rattle.gerg_tables.specs.declared.Tables.{Tables}
 use Rattle.gerg_reducing.specs.declared.GergModel.{GergModel}
 use Rattle.gerg.specs.declared.Range.{Range}

@@ -3,7 +3,7 @@
 --   504 + 12 × m + k, below 624: tau^tijk of term k of departure function m
 --   624 + 15 × i, below 939: five times three numbers of component i's ideal part
 -- A cell that no sum reads holds 0.
-use Rattle.std.specs.Prelude.{Bool, true, false, ◌||◌, List, ◌≡◌, ℕ, zero, suc, ◌+◌, ◌-◌, ◌*◌, ◌<◌, leb, Float, get_or, set, replicate}
+use Rattle.std.specs.Prelude.{◌||◌, List, ◌≡◌, ℕ, zero, suc, ◌+◌, ◌-◌, ◌*◌, leb, Float, get_or, set, replicate}
 use Rattle.std.specs.Float.{nan}
 use Rattle.std.specs.Float.Ieee.{eq}
 use Rattle.numerics.specs.Double.{◌⊗◌, ◌⊘◌, +0, pick}

@@ -1,5 +1,5 @@
 -- What the cells of an isotherm hold, as the sums read them.
-use Rattle.std.specs.Prelude.{Bool, false, ◌||◌, List, ◌≡◌, ℕ, ◌+◌, ◌-◌, ◌*◌, ◌<◌, leb, Float, get_or}
+use Rattle.std.specs.Prelude.{false, ◌||◌, List, ◌≡◌, ℕ, ◌+◌, ◌-◌, ◌*◌, ◌<◌, leb, Float, get_or}
 use Rattle.std.specs.Float.{nan}
 use Rattle.std.specs.Float.Ieee.{eq}
 use Rattle.numerics.specs.Double.{◌⊘◌, +0}

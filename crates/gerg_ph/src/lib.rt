@@ -1,5 +1,6 @@
 // The saturation temperature of a pure fluid at a pressure: `pure_saturation` of gerg_ph.rs. An interval of temperatures is halved until
 // the fugacity coefficients of the first and the last exterior root agree.
+#![tactic(auto)]
 
 pub mod sampling;
 pub mod saturation;

@@ -17,7 +17,6 @@ use Rattle.gerg_reducing.specs.declared.GergModel.{GergModel}
 use Rattle.gerg_model.specs.declared.mixture.MixtureCheck.{MixtureCheck}
 use Rattle.gerg_model.specs.declared.mixture.MixtureCheck.TheVariants as mixture
 use Rattle.gerg_model.specs.MixtureCheck.{check_of}
-use Rattle.gerg_model.specs.Accepted.{Accepted}
 use Rattle.gerg_model.proofs.Laws.Accepted.{accepted, listed}
 use Rattle.gerg_model.proofs.Laws.Numbers.{mixture_refused}
 use Rattle.gerg_model.specs.Mixture.{model_of, reducing_sound}
@@ -26,7 +25,7 @@ use Rattle.gerg_reducing.specs.Listed.{Listed}
 use Rattle.gerg_prepared.specs.Mixed.{refused_mixture, sound_mixture, reduced_mixture, checked_mixture, checked_from, after_file, mixed_from, mixed_of, after_rows, memory_rows}
 use Rattle.gerg_prepared.specs.declared.Mixed.{Mixed}
 use Rattle.gerg_prepared.specs.declared.Refusal.{Refusal}
-use Rattle.gerg_prepared.specs.declared.Refusal.TheVariants.{Nothing, Refused}
+use Rattle.gerg_prepared.specs.declared.Refusal.TheVariants.{Nothing}
 
 -- a refusal is none that says nothing
 pub refused_never : {A : Type 0} (number value : ℕ) → (refused_mixture number value).refusal ≡ Nothing → A

@@ -19,7 +19,6 @@ use Rattle.gerg_model.proofs.Laws.Numbers.{mixture_at_most_4, mixture_value_at_m
 use Rattle.gerg_prepared.specs.Mixed.{refused_mixture, sound_mixture, reduced_mixture, checked_mixture, checked_from, after_file, mixed_from, mixed_of, number_of, value_of}
 use Rattle.gerg_prepared.specs.declared.Mixed.{Mixed}
 use Rattle.gerg_prepared.specs.declared.Refusal.{Refusal}
-use Rattle.gerg_prepared.specs.declared.Refusal.TheVariants.{Nothing}
 
 -- the limits of a number and a value: those of row 5, and of row 1's offset
 record Limited (r : Refusal) : Type 0 where

@@ -1,4 +1,6 @@
 // States by the thousand from one seed: the call `state_at`, and `count_refusals`, which counts over a run of states the numbers under which `properties` refuses.
+#![tactic(auto)]
+
 ghost use Rattle.std.specs.Prelude.{◌≡◌};
 ghost use Rattle.gerg_states.specs.States as is;
 

@@ -19,7 +19,6 @@ use Rattle.gerg_terms.specs.Terms.{components_of}
 use Rattle.gerg.specs.declared.Range.{Range}
 use Rattle.gerg.specs.declared.helmholtz.HelmholtzAnswer.{HelmholtzAnswer}
 use Rattle.gerg.specs.declared.helmholtz.HelmholtzAnswer.TheVariants as derived
-use Rattle.gerg.specs.declared.evaluate.EvaluateAnswer.{EvaluateAnswer}
 use Rattle.gerg.specs.declared.evaluate.EvaluateAnswer.TheVariants as evaluated
 use Rattle.gerg.specs.Helmholtz.{helmholtz_of, checked_of, within_range}
 use Rattle.gerg.specs.HelmholtzNumbers as helmholtz

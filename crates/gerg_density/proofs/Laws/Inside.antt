@@ -10,9 +10,7 @@ use lib.Ieee.Positive.{positive}
 use Rattle.gerg_tables.specs.declared.Tables.{Tables}
 use Rattle.gerg_reducing.specs.declared.GergModel.{GergModel}
 use Rattle.gerg.specs.declared.Range.{Range}
-use Rattle.gerg.specs.declared.helmholtz.HelmholtzAnswer.{HelmholtzAnswer}
 use Rattle.gerg.specs.declared.evaluate.EvaluateAnswer.{EvaluateAnswer}
-use Rattle.gerg.specs.Helmholtz.{helmholtz_of}
 use Rattle.gerg.specs.Evaluate.{evaluate_of}
 use Rattle.gerg.specs.EvaluateNumbers as evaluate
 use Rattle.gerg.proofs.Laws.Inside.{Inside, between_ends, helmholtz_same, outside_ends, evaluate_inside}
@@ -23,13 +21,11 @@ use Rattle.gerg_search.specs.declared.Bracket.{Bracket}
 use Rattle.gerg_search.specs.declared.Options.{Options}
 use Rattle.gerg_search.specs.declared.Outcome.{Outcome}
 use Rattle.gerg_search.specs.declared.Outcome.TheVariants.{Found, Failed}
-use Rattle.gerg_search.specs.declared.Sample.{Sample}
 use Rattle.gerg_search.specs.declared.Sample.TheVariants.{Stopped}
 use Rattle.gerg_search.proofs.Laws.Start.{begun, target_within}
 use Rattle.gerg_search.proofs.Laws.Outcomes.{low_refused}
 use Rattle.gerg_density.specs.Density.{trial_of, verdict_of, search_of, density_trials, checked_of, finished_of, density_of}
 use Rattle.gerg_density.specs.DensityNumbers.{number_of}
-use Rattle.gerg_density.specs.declared.DensityAnswer.{DensityAnswer}
 
 module _ (a b : Range) (i : Inside a b) (t : Tables) (m : GergModel) (temperature target : Float) (o : Options) (doubles : Doubles o) where
   -- at a temperature within a's ends every trial has one verdict in both

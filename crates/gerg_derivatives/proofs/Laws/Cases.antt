@@ -2,7 +2,6 @@
 use mathlib.Core.Path.{◌≡◌, refl}
 use lib.Ieee.{add, sub, mul, neg, of_bits}
 use Rattle.numerics.specs.Double.{bits, +0, two}
-use Rattle.gerg_derivatives.specs.declared.derivatives.GergDerivatives.{GergDerivatives}
 use Rattle.gerg_derivatives.specs.Derivatives.{zero_derivatives, term_of}
 
 -- "`term`, zero record, value 2, t 2, slope 3, curvature 0: ar 2, ar_d 6, ar_dd 12, ar_t 4, ar_tt 4, ar_dt 12"

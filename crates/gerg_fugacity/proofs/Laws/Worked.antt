@@ -1,7 +1,6 @@
 -- The coefficients from a gradient, a weighted sum and a logarithm that are worked out once. Assumes nothing.
 use mathlib.Core.Path.{◌≡◌, ap, ◌∙◌}
 use mathlib.Core.List.{List}
-use Prim.Native.Nat.{ℕ}
 use lib.Ieee.{Float, nan}
 use lib.ListN.{get_or, replicate}
 use Rattle.numerics.specs.Double.{+0}

@@ -1,5 +1,5 @@
 -- The rows of one component's ideal part: what they keep of other rows, and that each is there when the last is written. Assumes nothing.
-use mathlib.Core.Bool.{Bool, true, false}
+use mathlib.Core.Bool.{false}
 use mathlib.Core.List.{List}
 use mathlib.Core.Path.{◌≡◌}
 use Prim.Native.Nat.{ℕ, ◌+◌, ◌*◌, ◌<◌, ◌≤◌}
@@ -8,7 +8,7 @@ use lib.Ieee.{Float, eq}
 use Rattle.numerics.specs.Double.{◌⊘◌, +0}
 use Rattle.gerg_tables.specs.Tables.{n0i, th0i}
 use Rattle.gerg_isotherm.specs.Isotherm.{written, base_cell, sinh_cell_of, cosh_cell_of, sinh_row, cosh_row, ideal_row}
-use Rattle.gerg_isotherm.proofs.Laws.Written.{Apart, below, above, Holds, Sized, sized, written_keeps, written_makes}
+use Rattle.gerg_isotherm.proofs.Laws.Written.{Apart, below, Holds, Sized, sized, written_keeps, written_makes}
 use Rattle.gerg_isotherm.proofs.Laws.Kept.{pick_either}
 
 module _ (f : ℕ → Float) (at n : ℕ) (doubles : List Float) (x temperature : Float) where

@@ -8,9 +8,9 @@ use native.Mathlib.Omega.{arith}
 use borrow.Author.Tests.{eqb-true, eqb-false, ltb-true, ltb-false}
 use lib.Dec.{eqb, leb, ltb}
 use lib.Ieee.{Float, nan}
-use lib.ListN.{get_or, length-replicate, replicate}
+use lib.ListN.{get_or, length-replicate}
 use Rattle.numerics.specs.Double.{+0}
-use Rattle.numerics.specs.Iterate.{iter, range}
+use Rattle.numerics.specs.Iterate.{range}
 use Rattle.gerg_tables.specs.declared.Tables.{Tables}
 use Rattle.gerg_tables.specs.Tables.{Shaped, kpol, kexp, m_numb, kpolij, kexpij}
 use Rattle.gerg_reducing.specs.declared.GergModel.{GergModel}

@@ -1,12 +1,8 @@
 -- Laws of the first place that a test holds of: what a loop for it asks, and what it says of the places before. Assumes nothing.
-use mathlib.Core.Path.{◌≡◌, refl, sym, ap, ◌∙◌}
-use mathlib.Core.Bool.{Bool, true, false, not, ◌&&◌, ◌||◌}
-use mathlib.Core.List.{List}
+use mathlib.Core.Path.{◌≡◌, refl, sym, ◌∙◌}
+use mathlib.Core.Bool.{Bool, true, false}
 use Prim.Native.Nat.{ℕ, zero, suc, ◌+◌, ◌-◌, ◌≤◌, ◌<◌}
 use native.Mathlib.Omega.{arith}
-use lib.Dec.{leb, ltb, eqb}
-use lib.Ieee.{Float, nan}
-use lib.ListN.{length, get_or}
 use Rattle.numerics.specs.Double.{pick}
 use Rattle.gerg_model.specs.MixtureCheck.{first_place}
 

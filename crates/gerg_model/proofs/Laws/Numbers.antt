@@ -1,13 +1,13 @@
 -- `check_mixture` refuses by a number at most 4 and a value at most 21. Assumes nothing.
-use mathlib.Core.Bool.{Bool, true, false, not, ◌||◌}
+use mathlib.Core.Bool.{Bool, true, false, not}
 use mathlib.Core.List.{List}
 use mathlib.Core.Path.{◌≡◌, refl}
-use Prim.Native.Nat.{ℕ, ◌≤◌, ◌<◌}
+use Prim.Native.Nat.{ℕ, ◌≤◌}
 use native.Mathlib.Omega.{arith}
 use borrow.Author.Tests.{ltb-true, ltb-false, leb-true, leb-false, eqb-true}
 use lib.Dec.{leb, ltb, eqb}
 use lib.Ieee.{Float}
-use lib.ListN.{length, get_or}
+use lib.ListN.{length}
 use Rattle.numerics.specs.Double.{pick}
 use Rattle.gerg_model.specs.MixtureCheck.{first_place, bad_number, bad_fraction, adds_up, check_of}
 use Rattle.gerg_model.specs.MixtureNumbers.{number_of, value_of}

@@ -7,7 +7,7 @@ use native.Mathlib.Nat.{le_trans, le_of_lt}
 use native.Mathlib.Omega.{arith}
 use borrow.Author.Tests.{ne_eqb}
 use lib.Dec.{T, eqb}
-use lib.Ieee.{Float, nan, low, lt, le, of_bits}
+use lib.Ieee.{Float, nan, lt, le, of_bits}
 use lib.Ieee.Positive.{positive}
 use lib.ListN.{length, get_or}
 use Rattle.numerics.specs.Double.{◌⊖◌, ◌⊗◌, bits, +0, pick}

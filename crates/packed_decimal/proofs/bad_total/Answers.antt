@@ -1,6 +1,6 @@
 use native.Mathlib.Omega.{arith}
 use mathlib.Core.Path.{ap}
-use Prim.Native.Nat.{ℕ, ◌+◌, ◌-◌}
+use Prim.Native.Nat.{ℕ, ◌+◌}
 use Rattle.numerics.specs.Iterate.{iter_begins, iter_turn}
 use Rattle.packed_decimal.proofs.Laws.Total.{total_told, total_past}
 use Rattle.packed_decimal.proofs.bad_total.Goals as goal

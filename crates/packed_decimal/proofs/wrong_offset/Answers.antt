@@ -1,6 +1,5 @@
 use native.Mathlib.Omega.{arith}
 use mathlib.Core.Path.{sym, ◌∙◌}
-use Prim.Native.Nat.{◌-◌}
 use Rattle.packed_decimal.proofs.Laws.Record.{not_cut}
 use Rattle.packed_decimal.proofs.Laws.Walk.{passed_begins, passed_turn, wrong_here, wrong_none}
 use Rattle.packed_decimal.proofs.wrong_offset.Goals as goal

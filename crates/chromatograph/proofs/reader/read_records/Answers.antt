@@ -21,13 +21,13 @@ pub slice_bounds-bad_total-end : goal.slice_bounds-bad_total-end
 slice_bounds-bad_total-end c = let few = laws.few_records _ c.requires.1 in sym (length-take-le _ _ (omega arith))
 
 pub returns-then-bad_total : goal.returns-then-bad_total
-returns-then-bad_total c = 
+returns-then-bad_total c =
     let pre = c.requires in
     let r : laws.Read c.args.bytes.now c.args.list.now c.args.parts.now c.args.fractions.now (Refused 29 0) c.args.list.now c.args.parts.now c.args.fractions.now = laws.number_29 c.args.bytes.now c.args.list.now c.args.parts.now c.args.fractions.now pre.0 pre.1 (laws.total_test _ _ _ _ c.all_parts-all.ensures c.bad_total.ensures ∙ c.if-bad_total.true) in
     record { answer = r.0; components = r.1.0; parts = r.1.1.0; fractions = r.1.1.1 }
 
 pub returns-then-list-n : goal.returns-then-list-n
-returns-then-list-n c = 
+returns-then-list-n c =
     let pre = c.requires in
     let r : laws.Read c.args.bytes.now c.args.list.now c.args.parts.now c.args.fractions.now (Refused 24 (records c.args.bytes.now)) c.args.list.now c.args.parts.now c.args.fractions.now = laws.row_24 c.args.bytes.now c.args.list.now c.args.parts.now c.args.fractions.now pre.0 pre.1 (laws.total_test _ _ _ _ c.all_parts-all.ensures c.bad_total.ensures ∙ c.if-bad_total.false) c.if-list-n.true in
     record { answer = r.0; components = r.1.0; parts = r.1.1.0; fractions = r.1.1.1 }
@@ -42,10 +42,10 @@ pub put_fractions-requires : goal.put_fractions-requires
 put_fractions-requires c = (laws.few_records _ c.requires.1, (laws.enough _ _ _ _ c.if-list-n.false).2)
 
 pub returns : goal.returns
-returns c = 
+returns c =
     let pre = c.requires in
     let all = c.all_parts-all.ensures in
     let part : ℕ → ℕ = λ k. parts_at c.args.bytes.now (offset_of k) in
     let r : laws.Read c.args.bytes.now c.args.list.now c.args.parts.now c.args.fractions.now (Listed (records c.args.bytes.now)) c.put_components.new.list c.put_parts.new.parts c.put_fractions.new.fractions =
-      laws.accepted c.args.bytes.now c.args.list.now c.args.parts.now c.args.fractions.now pre.0 pre.1 (laws.total_test _ _ _ _ c.all_parts-all.ensures c.bad_total.ensures ∙ c.if-bad_total.false) _ _ _ c.if-list-n.false c.put_components.ensures (c.put_parts.ensures ∙ filled_from part (λ p. p) _ _ _ _ 0 all) (c.put_fractions.ensures ∙ filled_from part fraction_of _ _ _ _ 0 all) in
+    laws.accepted c.args.bytes.now c.args.list.now c.args.parts.now c.args.fractions.now pre.0 pre.1 (laws.total_test _ _ _ _ c.all_parts-all.ensures c.bad_total.ensures ∙ c.if-bad_total.false) _ _ _ c.if-list-n.false c.put_components.ensures (c.put_parts.ensures ∙ filled_from part (λ p. p) _ _ _ _ 0 all) (c.put_fractions.ensures ∙ filled_from part fraction_of _ _ _ _ 0 all) in
     record { answer = r.0; components = r.1.0; parts = r.1.1.0; fractions = r.1.1.1 }

@@ -1,5 +1,4 @@
 use mathlib.Core.Path.{◌≡◌, ap, ◌∙◌}
-use Prim.Native.Nat.{◌-◌}
 use native.Mathlib.Omega.{arith}
 use lib.Seq.{sets}
 use Rattle.gerg_coefficients.proofs.Put.{no_critical, critical_on, critical_is}

@@ -1,6 +1,5 @@
 use mathlib.Core.Path.{◌≡◌}
-use mathlib.Core.Bool.{true}
-use Prim.Native.Nat.{◌+◌, ◌-◌, ◌<◌}
+use Prim.Native.Nat.{◌-◌, ◌<◌}
 use native.Mathlib.Omega.{arith}
 use Rattle.numerics.specs.Double.{+0}
 use Rattle.gerg_coefficients.specs.Load.{pair_doubles, pair_integers}

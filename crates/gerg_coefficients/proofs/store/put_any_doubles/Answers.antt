@@ -1,5 +1,4 @@
 use mathlib.Core.Path.{◌≡◌}
-use Prim.Native.Nat.{◌-◌}
 use Rattle.gerg_coefficients.proofs.Put.{no_doubles, double_on}
 use native.Mathlib.Omega.{arith}
 use Rattle.gerg_coefficients.proofs.store.put_any_doubles.Goals as goal

@@ -1,5 +1,4 @@
 use mathlib.Core.Path.{◌≡◌}
-use Prim.Native.Nat.{◌-◌}
 use Rattle.gerg_coefficients.specs.Load.{bytes_at}
 use Rattle.gerg_coefficients.proofs.Put.{room, no_records, record_on, length_bytes_at}
 use native.Mathlib.Omega.{arith}

@@ -1,5 +1,4 @@
 use mathlib.Core.Path.{◌≡◌, refl}
-use Prim.Native.Nat.{◌-◌}
 use Rattle.gerg_coefficients.proofs.Put.{no_bytes, byte_on}
 use native.Mathlib.Omega.{arith}
 use Rattle.gerg_coefficients.proofs.store.put_bytes.Goals as goal

@@ -1,6 +1,5 @@
 use mathlib.Core.Path.{◌≡◌}
-use mathlib.Core.Bool.{true}
-use Prim.Native.Nat.{ℕ, ◌+◌, ◌-◌, ◌*◌}
+use Prim.Native.Nat.{ℕ, ◌+◌, ◌*◌}
 use Rattle.gerg_coefficients.specs.Load.{doubles_at}
 use Rattle.gerg_coefficients.specs.Filling.{FiniteAt}
 use Rattle.gerg_coefficients.proofs.Finite.{finite_turn}

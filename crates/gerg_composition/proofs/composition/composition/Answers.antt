@@ -1,6 +1,5 @@
-use Prim.Native.Nat.{◌-◌}
 use Rattle.numerics.specs.Iterate.{iter_begins, iter_turn, iter_done}
-use Rattle.gerg_composition.specs.Composition.{composition_row, composition}
+use Rattle.gerg_composition.specs.Composition.{composition}
 use native.Mathlib.Omega.{arith}
 use Rattle.gerg_composition.proofs.composition.composition.Goals as goal
 

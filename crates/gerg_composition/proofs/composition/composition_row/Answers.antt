@@ -1,6 +1,5 @@
-use Prim.Native.Nat.{◌-◌}
 use Rattle.numerics.specs.Iterate.{range_begins, range_turn, range_done}
-use Rattle.gerg_composition.specs.Composition.{departure_pair, composition_row}
+use Rattle.gerg_composition.specs.Composition.{composition_row}
 use native.Mathlib.Omega.{arith}
 use Rattle.gerg_composition.proofs.composition.composition_row.Goals as goal
 

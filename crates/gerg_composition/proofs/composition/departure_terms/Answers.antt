@@ -1,6 +1,4 @@
-use Prim.Native.Nat.{◌-◌}
 use Rattle.numerics.specs.Iterate.{iter_begins, iter_turn, iter_done}
-use Rattle.gerg_tables.specs.Tables.{kpolij, kexpij}
 use Rattle.gerg_composition.specs.Composition.{departure_terms}
 use native.Mathlib.Omega.{arith}
 use Rattle.gerg_composition.proofs.composition.departure_terms.Goals as goal

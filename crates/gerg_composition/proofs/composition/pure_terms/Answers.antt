@@ -1,9 +1,7 @@
 use mathlib.Core.Path.{ap}
-use Prim.Native.Nat.{◌-◌}
 use lib.Ieee.{Float}
 use Rattle.numerics.specs.Double.{◌⊕◌}
 use Rattle.numerics.specs.Iterate.{iter_begins, iter_turn, iter_done}
-use Rattle.gerg_tables.specs.Tables.{kpol, kexp}
 use Rattle.gerg_composition.specs.Composition.{pure_terms}
 use native.Mathlib.Omega.{arith}
 use Rattle.gerg_composition.proofs.composition.pure_terms.Goals as goal

@@ -1,5 +1,4 @@
 use mathlib.Core.Path.{refl}
-use Prim.Native.Nat.{◌-◌}
 use Rattle.numerics.specs.Fill.{fill_begins, fill_again, fill_whole}
 use native.Mathlib.Omega.{arith}
 use Rattle.gerg_composition.proofs.powers.powers_of.Goals as goal

@@ -1,6 +1,5 @@
 use native.Mathlib.Omega.{arith}
 use mathlib.Core.Path.{refl}
-use Prim.Native.Nat.{◌-◌}
 use lib.ListN.{length-set}
 use Rattle.numerics.specs.Fill.{fill_begins, fill_again, fill_whole}
 use Rattle.gerg_derivatives.specs.Powers.{powers_of}

@@ -1,5 +1,4 @@
 use mathlib.Core.Path.{refl}
-use Prim.Native.Nat.{◌-◌}
 use Rattle.numerics.specs.Fill.{fill_begins, fill_again, fill_done}
 use Rattle.gerg_fugacity.proofs.Laws.Worked.{ln_phis_worked}
 use native.Mathlib.Omega.{arith}

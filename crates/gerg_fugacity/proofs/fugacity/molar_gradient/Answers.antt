@@ -1,6 +1,5 @@
-use Prim.Native.Nat.{◌-◌}
 use Rattle.numerics.specs.Iterate.{iter_begins, iter_turn, iter_done}
-use Rattle.gerg_fugacity.specs.Fugacity.{through_reducing, molar_gradient}
+use Rattle.gerg_fugacity.specs.Fugacity.{molar_gradient}
 use native.Mathlib.Omega.{arith}
 use Rattle.gerg_fugacity.proofs.fugacity.molar_gradient.Goals as goal
 

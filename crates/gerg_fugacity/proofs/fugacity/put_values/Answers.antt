@@ -1,5 +1,4 @@
 use mathlib.Core.Path.{refl}
-use Prim.Native.Nat.{◌-◌}
 use lib.ListN.{length-set}
 use Rattle.numerics.specs.Fill.{fill_begins, fill_again, fill_done}
 use native.Mathlib.Omega.{arith}

@@ -1,7 +1,6 @@
 use native.Mathlib.Omega.{arith}
-use Prim.Native.Nat.{◌-◌}
 use Rattle.numerics.specs.Iterate.{iter_begins, iter_turn, iter_done}
-use Rattle.gerg_isotherm.specs.Isotherm.{component_rows, all_rows}
+use Rattle.gerg_isotherm.specs.Isotherm.{all_rows}
 use Rattle.gerg_isotherm.proofs.isotherm.all_rows.Goals as goal
 
 pub loop-i-init : goal.loop-i-init

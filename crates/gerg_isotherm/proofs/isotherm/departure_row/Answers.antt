@@ -1,6 +1,5 @@
 use native.Mathlib.Omega.{arith}
 use mathlib.Core.Path.{◌∙◌}
-use Prim.Native.Nat.{◌-◌}
 use Rattle.elementary.proofs.Laws.{powf_from_ln}
 use Rattle.gerg_isotherm.specs.Isotherm.{departure_row}
 use Rattle.gerg_isotherm.proofs.Laws.Written.{written_begins, written_turn, written_done}

@@ -1,7 +1,5 @@
 use native.Mathlib.Omega.{arith}
-use Prim.Native.Nat.{◌-◌}
 use Rattle.numerics.specs.Iterate.{range_begins, range_turn, range_done}
-use Rattle.gerg_isotherm.specs.Isotherm.{pair_row}
 use Rattle.gerg_isotherm.proofs.isotherm.pair_rows.Goals as goal
 
 pub loop-j-init : goal.loop-j-init

@@ -1,6 +1,4 @@
 use mathlib.Core.Path.{sym, ◌∙◌}
-use Prim.Native.Nat.{◌-◌}
-use Rattle.gerg_model.specs.MixtureCheck.{bad_number}
 use Rattle.gerg_model.proofs.Laws.First.{first_begins, first_turn, first_here, first_none}
 use native.Mathlib.Omega.{arith}
 use Rattle.gerg_model.proofs.mixture.first_bad_number.Goals as goal

@@ -1,6 +1,5 @@
 use mathlib.Core.Path.{sym, ap, ◌∙◌}
 use mathlib.Core.Bool.{not}
-use Prim.Native.Nat.{◌-◌}
 use Rattle.gerg_model.specs.Mixture.{nonfinite_at}
 use Rattle.gerg_model.proofs.Laws.First.{first_begins, first_turn, first_here, first_none}
 use native.Mathlib.Omega.{arith}

@@ -1,5 +1,4 @@
 use borrow.Author.Tests.{eq-eqb, ne_eqb}
-use Prim.Native.Nat.{◌-◌}
 use Rattle.gerg_model.proofs.Laws.First.{first_begins, first_turn, first_here, first_none}
 use native.Mathlib.Omega.{arith}
 use Rattle.gerg_model.proofs.mixture.first_same.Goals as goal

@@ -1,5 +1,4 @@
 use mathlib.Core.Path.{refl}
-use Prim.Native.Nat.{◌-◌}
 use Rattle.numerics.specs.Iterate.{iter_begins, iter_turn, iter_done}
 use Rattle.gerg_model.specs.Mixture.{indices_of}
 use native.Mathlib.Omega.{arith}

@@ -1,4 +1,3 @@
-use Prim.Native.Nat.{◌-◌}
 use Rattle.numerics.specs.Iterate.{iter_begins, iter_turn, iter_done}
 use Rattle.gerg_model.specs.Mixture.{molar_mass}
 use native.Mathlib.Omega.{arith}

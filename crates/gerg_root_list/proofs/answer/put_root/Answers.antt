@@ -1,9 +1,9 @@
 use native.Mathlib.Omega.{arith}
 use Rattle.numerics.specs.Iterate.{iter_begins, iter_turn, iter_done}
 use lib.ListN.{length, set, length-set}
-use Prim.Native.Nat.{◌+◌, ◌-◌}
+use Prim.Native.Nat.{◌+◌}
 use mathlib.Core.Path.{◌≡◌, refl, ap, ◌∙◌}
-use Rattle.gerg_root_list.specs.RootList.{number_at, root_written}
+use Rattle.gerg_root_list.specs.RootList.{root_written}
 use Rattle.gerg_root_list.proofs.answer.put_root.Goals as goal
 
 pub loop-j-init : goal.loop-j-init

@@ -2,7 +2,7 @@ use native.Mathlib.Omega.{arith}
 use Rattle.gerg_root_list.proofs.Laws.Answering.{length_root, puts_turn}
 use Rattle.gerg_root_list.specs.RootList.{roots_written}
 use mathlib.Core.Path.{refl, ap, ◌∙◌}
-use Prim.Native.Nat.{◌*◌, ◌≤◌, ◌-◌}
+use Prim.Native.Nat.{◌*◌, ◌≤◌}
 use native.Mathlib.Nat.{mul-le-mul, mul-le-mul_right}
 use lib.ListN.{length}
 use Rattle.numerics.specs.Iterate.{iter_begins, iter_done}

@@ -1,7 +1,7 @@
 use native.Mathlib.Omega.{arith}
 use Rattle.numerics.specs.Iterate.{iter_begins, iter_turn, iter_done}
 use lib.Dec.{leb}
-use Prim.Native.Nat.{ℕ, ◌-◌}
+use Prim.Native.Nat.{ℕ}
 use mathlib.Core.Bool.{◌||◌}
 use mathlib.Core.Path.{ap}
 use Rattle.gerg_root_list.specs.RootList.{beyond_five}

@@ -1,6 +1,5 @@
 use native.Mathlib.Omega.{arith}
 use Rattle.numerics.specs.Iterate.{iter_begins, iter_turn, iter_done}
-use Prim.Native.Nat.{◌-◌}
 use mathlib.Core.Path.{◌∙◌}
 use Rattle.gerg_scan_steps.specs.Halving.{crossing_of}
 use Rattle.gerg_scan.proofs.sampling.crossing.Goals as goal

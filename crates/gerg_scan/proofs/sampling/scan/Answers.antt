@@ -1,6 +1,5 @@
 use native.Mathlib.Omega.{arith}
 use Rattle.gerg_scan_steps.proofs.Laws.ScanSteps.{scans_begin, scans_turn, scans_done}
-use Prim.Native.Nat.{◌-◌}
 use Rattle.gerg_scan.proofs.sampling.scan.Goals as goal
 
 pub sample-v-requires : goal.sample-v-requires

@@ -1,5 +1,4 @@
 use native.Mathlib.Omega.{arith}
-use Prim.Native.Nat.{◌-◌}
 use Rattle.numerics.specs.Iterate.{range_begins, range_turn, range_done}
 use Rattle.gerg_terms.proofs.departure.departure_pairs.Goals as goal
 

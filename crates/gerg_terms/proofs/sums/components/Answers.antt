@@ -1,5 +1,4 @@
 use native.Mathlib.Omega.{arith}
-use Prim.Native.Nat.{◌-◌}
 use Rattle.numerics.specs.Iterate.{iter_begins, iter_turn, iter_done}
 use Rattle.gerg_terms.specs.Terms as is
 use Rattle.gerg_terms.proofs.sums.components.Goals as goal
