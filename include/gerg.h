@@ -1,4 +1,4 @@
-/* GERG-2008 gas properties: the exports of target/staticlib/libgerg_api.a (made by `rt staticlib gerg_api`; x86-64 Linux).
+/* GERG-2008 gas properties: the exports of target/staticlib/libgerg_api.a (made by `tests/archive gerg_api`; x86-64 Linux).
  *
  * Units: K, Pa, mol/m3, kg/m3, J/mol, J/(mol K), m/s.
  *

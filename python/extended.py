@@ -1,6 +1,6 @@
 """Hydrogen in the extended range, and a state that the normal range refuses: examples/c/extended.c in Python.
 
-    rt staticlib gerg_api && python3 python/extended.py
+    tests/archive gerg_api && python3 python/extended.py
 """
 import gerg
 

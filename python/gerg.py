@@ -13,7 +13,7 @@ properties, fugacity and density take range="extended": 60 to 700 K and up to 70
 
 read_list takes the bytes that a chromatograph sends and gives a mixture for every other call, write_list makes such bytes; they need no file.
 
-The archive is made by `rt staticlib gerg_api`. ctypes needs a shared library: it is linked from the archive with `cc` at the first call, beside it.
+The archive is made by `tests/archive gerg_api`. ctypes needs a shared library: it is linked from the archive with `cc` at the first call, beside it.
 """
 import ctypes
 import os

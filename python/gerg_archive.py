@@ -76,7 +76,7 @@ def _shared_library():
     folder = os.environ.get("RATTLE_ARCHIVES") or os.path.join(ROOT, "target", "staticlib")
     archive, shared = os.path.join(folder, "libgerg_api.a"), os.path.join(folder, "libgerg_api.so")
     if not os.path.exists(archive):
-        raise OSError(f"there is no {archive}; make it with:  cd {ROOT} && rt staticlib gerg_api  (or name its folder in RATTLE_ARCHIVES)")
+        raise OSError(f"there is no {archive}; make it with:  cd {ROOT} && tests/archive gerg_api  (or name its folder in RATTLE_ARCHIVES)")
     if not os.path.exists(shared) or os.path.getmtime(shared) < os.path.getmtime(archive):
         handle, fresh = tempfile.mkstemp(suffix=".so", dir=folder)
         os.close(handle)

@@ -1,6 +1,6 @@
 """A gas as a chromatograph sends it, in packed decimal: read, used and written again, then a damaged digit: examples/c/lists.c in Python.
 
-    rt staticlib gerg_api && python3 python/lists.py
+    tests/archive gerg_api && python3 python/lists.py
 """
 import gerg
 

@@ -1,6 +1,6 @@
 """Density and speed of sound of a natural gas at 293.15 K and 5 MPa, then an input that is refused: examples/c/properties.c in Python.
 
-    rt staticlib gerg_api && python3 python/properties.py
+    tests/archive gerg_api && python3 python/properties.py
 """
 import gerg
 

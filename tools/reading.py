@@ -33,7 +33,9 @@ LAYER = re.compile(r"/proofs/(?:Promises|Laws/(?:Numbers|Answered|Cases)|Bounds)
 # The crates of which every public function is a public call, and the programs whose functions are promised.
 PUBLIC = ("chromatograph", "gerg_calls", "gerg_extended", "gerg_states", "gerg_equilibrium", "gerg_api")
 PROGRAMS = ("tablecheck", "states")
-TOKEN = re.compile(r"«[^»]*»|[^\s(){}.;,@\"«»⌜⌝⟦⟧]+")
+TOKEN = re.compile(r"«[^»]*»|[^\s(){}.;,@\"«»⟦⟧]+")
+# What `rt` reads of the proof of one function: no promise.
+ANSWERS = re.compile(r"proofs\.(?:.*\.)?(?:Proof|Answers|Invariants)$")
 DECLARED = re.compile(r"^(\s*)(?:(?:unfoldable|abbrev|pub|axiom) )*(?:(record|data) (\S+)|([^\s(){}.;,@\"]+) :(?= |$))")
 LAW = re.compile(r"≡|≤|⊑|⊥| < |\bT \(|Within|Near")
 
@@ -91,19 +93,22 @@ class Antt:
                 going = True
             elif name:
                 word = line.strip().split(" ")[0]
-                parts = [part for part in name.split("_") if part]
-                clause = not inside and (word == "unfolding" or word == name or (name.startswith("_") and any(f" {part} " in line for part in parts) and "=" in line))
+                parts = [part for part in name.split("◌") if part]
+                clause = not inside and (word == "unfolding" or word == name or (name.startswith("◌") and any(f" {part} " in line for part in parts) and "=" in line))
                 if clause:
                     going = False
                 if going and name in self.public:
                     self.stated += 1
                 statement[0 if going else 1] += "\n" + (line if word != "unfolding" else "")
-        for key in [key for key in self.found if key.startswith("_") or key.endswith("_")]:
-            for part in filter(None, key.split("_")):
+        for key in [key for key in self.found if "◌" in key]:
+            for part in filter(None, key.split("◌")):
                 self.found.setdefault(part, self.found[key])
 
     def law(self, name):
-        return "-" in name.strip("-") and bool(LAW.search(self.found[name][0].split("→")[-1]))
+        """Whether a name is a law's: no record, and its type ends in a statement."""
+        words = self.found[name][0]
+        stated = words.partition(f" {name} :")[2].split("→")[-1]
+        return not re.search(rf"\b(?:record|data) {re.escape(name)}(?!\S)", words) and bool(LAW.search(stated))
 
 
 class Source:
@@ -114,25 +119,26 @@ class Source:
         self.names, self.modules = imports(source)
         plain = uncommented(source, "//")
         self.types = {m[2]: m[0] for m in re.finditer(r"^pub (struct|enum) (\w+)[^{;]*(?:\{.*?^\}|;)", plain, re.M | re.S)}
-        blocks = re.findall(r"(?:^ *//[^\n]*\n)*^pub (?:struct|enum) \w+[^{;]*(?:\{.*?^\}|;)", source, re.M | re.S)
-        self.blocks = {re.search(r"^pub (?:struct|enum) (\w+)", block, re.M)[1]: len([line for line in block.splitlines() if line.strip()]) for block in blocks}
-        self.uses = dict(re.findall(r"^use (\S+?)::(\w+);", plain, re.M)[::-1])
+        blocks = re.findall(r"(?:^ *//[^\n]*\n)*(?:^#\[[^\n]*\n)*^pub (?:struct|enum) \w+[^{;]*(?:\{.*?^\}|;)", source, re.M | re.S)
+        self.blocks = {re.search(r"^pub (?:struct|enum) (\w+)", block, re.M)[1]: len([line for line in block.splitlines() if line.strip() and not line.startswith("#[")]) for block in blocks}
         self.contracts = []
-        for m in re.finditer(r"^(?:#\[no_mangle\]\n)?(pub )?(extern \"C\" )?fn (\w+)[^{]*?\)(?: -> [^{]*?)?\n((?:    (?:requires|ensures).*\n(?:        .*\n)*)*)", plain, re.M):
-            self.contracts.append((m[3], bool(m[1]), bool(m[2]), m[4]))
+        for m in re.finditer(r"^( *)(pub )?(extern \"C\" )?fn (\w+)[^{]*?\)(?: -> [^{]*?)?\n((?:\1    (?:requires|ensures).*\n(?:\1        .*\n|\1    \}\n)*)*)", plain, re.M):
+            self.contracts.append((m[4], bool(m[2]), bool(m[3]), m[5]))
+        # the crate that each type of another one is taken from
+        self.taken = {word: m[1] for m in re.finditer(r"^use (\w+)::((?:[^;])+);", plain, re.M) for word in re.findall(r"\w+", m[2])}
 
 
 class Tree:
     def __init__(self):
         self.files, self.sources = {}, {}
         lines = uncommented(text("crates.txt"), "#").splitlines()
-        self.crates = [line.split(":")[0].strip() for line in lines if ":" in line]
+        self.crates = [line.split(":")[0].split()[0] for line in lines if ":" in line]
         for crate in self.crates:
             for part in ("specs", "proofs"):
                 for path in glob.glob(os.path.join(ROOT, "crates", crate, part, "**", "*.antt"), recursive=True):
                     short = os.path.relpath(path, ROOT)
                     module = os.path.relpath(path, os.path.join(ROOT, "crates", crate))[: -len(".antt")].replace(os.sep, ".")
-                    if not module.endswith("Proof"):
+                    if not ANSWERS.match(module):
                         self.files[crate, module] = Antt(short)
             for path in sorted(glob.glob(os.path.join(ROOT, "crates", crate, "src", "**", "*.rt"), recursive=True)):
                 self.sources.setdefault(crate, []).append(Source(os.path.relpath(path, ROOT)))
@@ -140,7 +146,7 @@ class Tree:
 
     def module(self, path):
         """The crate and module that a path of a `use` line names; None for the toolchain's."""
-        m = re.match(r"(?:package\.)?Rattle·(\w+?)(?:·(?:specs|proofs))?\.(.*)$", path)
+        m = re.match(r"Rattle\.(\w+)\.((?:specs|proofs)\..*)$", path)
         return (m[1], m[2]) if m else None
 
     def visit_module(self, path, name):
@@ -149,7 +155,7 @@ class Tree:
             return
         crate, module = found
         if ".declared." in "." + module + ".":
-            kept = [part for part in module.split(".") if part not in ("specs", "declared", "the-variants")]
+            kept = [part for part in module.split(".") if part not in ("specs", "declared", "TheVariants")]
             self.visit_type(crate, kept[-1])
             return
         file = self.files.get((crate, module))
@@ -163,7 +169,7 @@ class Tree:
                 for word in re.findall(r"\w+", source.types[name]):
                     for other in self.crates:
                         if word != name and any(word in s.types for s in self.sources.get(other, [])):
-                            if other == crate or re.search(rf"use {other}::(?:\w+::)*{word};|{other}::(?:\w+::)*{word}", text(source.path)):
+                            if other == crate or source.taken.get(word) == other or re.search(rf"\b{other}::(?:\w+::)*{word}\b", text(source.path)):
                                 self.visit_type(other, word)
 
     def visit(self, file, name, statement_only=False):
@@ -184,7 +190,7 @@ class Tree:
             if token in getattr(file, "found", {}):
                 self.visit(file, token)
             for key, (module, name) in file.names.items():
-                if token == key or (("_" in key) and token in key.split("_") and token):
+                if token == key or token in filter(None, key.split("◌")):
                     self.visit_module(module, name)
             if token in file.modules and k + 1 < len(tokens):
                 self.visit_module(file.modules[token], tokens[k + 1])

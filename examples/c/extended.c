@@ -1,6 +1,6 @@
 /* Hydrogen in the extended range: density and speed of sound at 77 K and 10 MPa and at 600 K and 60 MPa, then the first state by the normal call, which refuses it.
  *
- *     rt staticlib gerg_api
+ *     tests/archive gerg_api
  *     cc -std=c11 -Wall -Wextra -Werror -Iinclude -o target/extended examples/c/extended.c target/staticlib/libgerg_api.a
  *     target/extended data/gerg-2008.bin */
 #include "gerg.h"

@@ -1,7 +1,7 @@
 /* A gas as a chromatograph sends it, in packed decimal: read, its density and speed of sound at 293.15 K and 5 MPa, written again; then a damaged digit, which is
  * refused.
  *
- *     rt staticlib gerg_api
+ *     tests/archive gerg_api
  *     cc -std=c11 -Wall -Wextra -Werror -Iinclude -o target/lists examples/c/lists.c target/staticlib/libgerg_api.a
  *     target/lists data/gerg-2008.bin */
 #include "gerg.h"

@@ -1,6 +1,6 @@
 /* Density and speed of sound of a natural gas at 293.15 K and 5 MPa, then an input that is refused.
  *
- *     rt staticlib gerg_api
+ *     tests/archive gerg_api
  *     cc -std=c11 -Wall -Wextra -Werror -Iinclude -o target/properties examples/c/properties.c target/staticlib/libgerg_api.a
  *     target/properties data/gerg-2008.bin */
 #include "gerg.h"

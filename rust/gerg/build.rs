@@ -13,7 +13,7 @@ fn main() {
     if !archive.exists() {
         let root = root.canonicalize().unwrap_or(root);
         eprintln!("there is no {}", archive.display());
-        eprintln!("make it with:   cd {} && rt staticlib gerg_api", root.display());
+        eprintln!("make it with:   cd {} && tests/archive gerg_api", root.display());
         eprintln!("or name the folder that has it:   RATTLE_ARCHIVES=FOLDER cargo ..");
         std::process::exit(1);
     }

@@ -1,4 +1,4 @@
-// The elementary functions for C. Each ends in `quieted`, so that every NaN leaves with the bits 0x7FF8000000000000.
+// The elementary functions as C has them (`elementary_c` exports them). Each ends in `quieted`, so that every NaN leaves with the bits 0x7FF8000000000000.
 
 ghost use Rattle.std.specs.Prelude.{◌≡◌};
 ghost use Rattle.elementary_exp.specs.Exp.{exp_of};
@@ -22,57 +22,49 @@ pub fn quieted(x: f64) -> f64
     x
 }
 
-#[unsafe(no_mangle)]
-pub extern "C" fn elementary_exp(x: f64) -> f64
+pub fn elementary_exp(x: f64) -> f64
     ensures { result ≡ exp_of x }
 {
     quieted(exp::exp(x))
 }
 
-#[unsafe(no_mangle)]
-pub extern "C" fn elementary_ln(x: f64) -> f64
+pub fn elementary_ln(x: f64) -> f64
     ensures { result ≡ ln_of x }
 {
     quieted(ln::ln(x))
 }
 
-#[unsafe(no_mangle)]
-pub extern "C" fn elementary_sqrt(x: f64) -> f64
+pub fn elementary_sqrt(x: f64) -> f64
     ensures { result ≡ sqrt_of x }
 {
     quieted(sqrt::sqrt(x))
 }
 
-#[unsafe(no_mangle)]
-pub extern "C" fn elementary_powf(x: f64, t: f64) -> f64
+pub fn elementary_powf(x: f64, t: f64) -> f64
     ensures { result ≡ powf_of x t }
 {
     quieted(power::powf(x, t))
 }
 
-#[unsafe(no_mangle)]
-pub extern "C" fn elementary_powi(x: f64, n: i32) -> f64
+pub fn elementary_powi(x: f64, n: i32) -> f64
     ensures { result ≡ powi_of x n }
 {
     quieted(power::powi(x, n))
 }
 
-#[unsafe(no_mangle)]
-pub extern "C" fn elementary_sinh(v: f64) -> f64
+pub fn elementary_sinh(v: f64) -> f64
     ensures { result ≡ sinh_of v }
 {
     quieted(hyperbolic::sinh(v))
 }
 
-#[unsafe(no_mangle)]
-pub extern "C" fn elementary_cosh(v: f64) -> f64
+pub fn elementary_cosh(v: f64) -> f64
     ensures { result ≡ cosh_of v }
 {
     quieted(hyperbolic::cosh(v))
 }
 
-#[unsafe(no_mangle)]
-pub extern "C" fn elementary_tanh(v: f64) -> f64
+pub fn elementary_tanh(v: f64) -> f64
     ensures { result ≡ tanh_of v }
 {
     quieted(hyperbolic::tanh(v))

@@ -1,4 +1,6 @@
 // The public calls for C; what is promised of the public calls stands in proofs/Promises.
+#![tactic(auto)]
+
 ghost use Rattle.std.specs.Prelude.{◌≡◌};
 ghost use Rattle.gerg_calls.specs.Calls.{options_of};
 

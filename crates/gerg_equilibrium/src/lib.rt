@@ -1,4 +1,5 @@
 // The public calls `outer_roots` and `pure_saturation`. Each starts from the coefficient file's bytes, the component list and the fractions, and meets rows 1 to 5 first.
+#![tactic(auto)]
 
 pub mod roots;
 pub mod saturation;

@@ -1,6 +1,6 @@
 //! Hydrogen in the extended range, and a state that the normal range refuses: examples/c/extended.c in Rust.
 //!
-//!     rt staticlib gerg_api && cargo run --manifest-path rust/Cargo.toml -p gerg --example extended
+//!     tests/archive gerg_api && cargo run --manifest-path rust/Cargo.toml -p gerg --example extended
 use gerg::{Component::Hydrogen, Mixture, Range, Refusal, Search};
 
 fn main() -> Result<(), Box<dyn std::error::Error>> {

@@ -1,6 +1,6 @@
 //! A gas as a chromatograph sends it, in packed decimal: read, used and written again, then a damaged digit: examples/c/lists.c in Rust.
 //!
-//!     rt staticlib gerg_api && cargo run --manifest-path rust/Cargo.toml -p gerg --example lists
+//!     tests/archive gerg_api && cargo run --manifest-path rust/Cargo.toml -p gerg --example lists
 use gerg::{Refusal, Search};
 
 const BYTES: [[u8; gerg::RECORD_BYTES]; 5] = [

@@ -1,6 +1,6 @@
 //! Density and speed of sound of a natural gas at 293.15 K and 5 MPa, then an input that is refused: examples/c/properties.c in Rust.
 //!
-//!     rt staticlib gerg_api && cargo run --manifest-path rust/Cargo.toml -p gerg --example properties
+//!     tests/archive gerg_api && cargo run --manifest-path rust/Cargo.toml -p gerg --example properties
 use gerg::{Component::*, Mixture, Refusal, Search};
 
 fn main() -> Result<(), Box<dyn std::error::Error>> {

@@ -6,7 +6,7 @@ use Prim.Native.Nat.{ℕ, ◌*◌, ◌^◌, ◌≤◌}
 use native.Mathlib.Nat.{mul-one}
 use lib.IntN.{pos}
 use lib.Dec.{T}
-use lib.Ieee.{Float, fin, binary64, fits, of_bits, lt, le}
+use lib.Ieee.{Float, fin, binary64, fits, of_bits, le}
 use lib.Ieee.Bits.{of_bits-fits}
 use lib.Ieee.Positive.{positive, between}
 use Rattle.numerics.specs.Double.{bits, pick}

@@ -1,6 +1,5 @@
 use native.Mathlib.Omega.{arith}
 use mathlib.Core.Path.{sym, ap, ◌∙◌}
-use Prim.Native.Nat.{◌-◌}
 use Rattle.gerg_saturation.proofs.Laws.Halvings.{begins, done, accepted, refused, ended, again}
 use Rattle.gerg_saturation.specs.declared.SaturationAnswer.TheVariants.{Found}
 use Rattle.gerg_ph.proofs.saturation.halvings.Goals as goal
