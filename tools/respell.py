@@ -3,8 +3,8 @@
 
     tools/respell.py [FOLDER]
 
-It was run once, after the toolchain's port.py, when the repository came to rattle-kit-13f. `optionsRefused` and `first-begins` became `options_refused` and `first_begins`; a lemma that would
-have had its definition's name in one file got `_lem`. Answers of proofs (declared with a type of `tie`) are left: their names are the toolchain's. In comments and pages a name is
+It was run after the toolchain's port.py, when the repository came to rattle-kit-13f, and once more for four names whose types begin with `ofProperties`, which it had taken for answers. `optionsRefused` and `first-begins` became `options_refused` and `first_begins`; a lemma that would
+have had its definition's name in one file got `_lem`. Answers of proofs are left: their names are the toolchain's. In comments and pages a name is
 respelled where it stands in backticks, and in must-fail edits everywhere. Prints how many names and files it changed.
 """
 import collections
@@ -16,7 +16,7 @@ import sys
 WORD = r"[^\s(){}.;,@\"«»\[\]\\]+"
 TOKEN = re.compile(WORD)
 DECLARED = re.compile(rf"^\s*(?:(?:unfoldable|abbrev|pub|axiom) )*(?:(?:record|data) )?({WORD}) :(?=\s|$)")
-ANSWER = re.compile(r"\s*\S*(?:tie|lts)\S*\.")
+ANSWER = re.compile(r"\s*(?:tie|goal|\S+-lts)\.")
 IMPORT = re.compile(r"use ([^;{]+)\.\{([^}]*)\}")
 # Lemmas that port.py had put in snake case already, with the files that name them.
 MADE = {
@@ -58,6 +58,8 @@ def source_files(root):
 def declared(files):
     names = set()
     for path in files:
+        if os.path.basename(path) in ("Invariants.antt", "Answers.antt"):
+            continue
         for line in read(path).split("\n"):
             found = DECLARED.match(code(line, "--"))
             if found and not ANSWER.match(code(line, "--")[found.end() :]):
@@ -122,7 +124,7 @@ def main():
     new = renamings(root)
     count = 0
     for path in proof_files(root):
-        own = new | {name: name + "_lem" for name in MADE if os.path.relpath(path, root) in MADE[name]}
+        own = new | {name: name + "_lem" for name in MADE if os.path.relpath(path, root) in MADE[name] and f"{name}_lem" not in tokens(path)}
         count += changed(path, file_respelled(read(path), own, "--"))
     for path in source_files(root):
         count += changed(path, file_respelled(read(path), new, "//"))

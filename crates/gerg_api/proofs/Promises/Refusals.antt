@@ -88,31 +88,31 @@ module _ (bytes list : List ℕ) (fractions : List Float) where
 
   -- ---- of each call: its number is one of the table up to the last row that it can meet; its value is below 2^32; so its code is number × 2^32 + value
   module _ (range : Range) (temperature rho : Float) where
-    pub properties-number : ofProperties.number_of (properties_in bytes list fractions range temperature rho) ≤ 12
-    properties-number =
+    pub properties_number : ofProperties.number_of (properties_in bytes list fractions range temperature rho) ≤ 12
+    properties_number =
         properties_through bytes list fractions (λ a. ofProperties.number_of a ≤ 12) range temperature rho (λ b. early 12 (omega arith))
-        (λ e. laws.properties-number t m range temperature rho)
+        (λ e. laws.properties_number t m range temperature rho)
 
-    pub properties-value : ofProperties.value_of (properties_in bytes list fractions range temperature rho) < 2 ^ 32
-    properties-value =
+    pub properties_value : ofProperties.value_of (properties_in bytes list fractions range temperature rho) < 2 ^ 32
+    properties_value =
         properties_through bytes list fractions (λ a. ofProperties.value_of a < 2 ^ 32) range temperature rho (λ b. rows_value bytes list fractions)
         (λ e. omega (arith, laws.stated_value (evaluated_of t m range temperature rho)))
 
     pub properties_code_lem :
         properties_code (properties_in bytes list fractions range temperature rho) ≡
         ofProperties.number_of (properties_in bytes list fractions range temperature rho) * 2 ^ 32 + ofProperties.value_of (properties_in bytes list fractions range temperature rho)
-    properties_code_lem = export.properties_code_lem (properties_in bytes list fractions range temperature rho) properties-value
+    properties_code_lem = export.properties_code_lem (properties_in bytes list fractions range temperature rho) properties_value
 
     -- "Every bad input is refused under a number of its own": 0 is no refusal's, it means a state
-    pub properties-accepted : ofProperties.number_of (properties_in bytes list fractions range temperature rho) ≡ 0 → (s : GergState) × (properties_in bytes list fractions range temperature rho ≡ answer.State s)
-    properties-accepted =
-        properties_through bytes list fractions (λ a. ofProperties.number_of a ≡ 0 → (s : GergState) × (a ≡ answer.State s)) range temperature rho unrefused (λ e. laws.properties-accepted t m range temperature rho)
+    pub properties_accepted : ofProperties.number_of (properties_in bytes list fractions range temperature rho) ≡ 0 → (s : GergState) × (properties_in bytes list fractions range temperature rho ≡ answer.State s)
+    properties_accepted =
+        properties_through bytes list fractions (λ a. ofProperties.number_of a ≡ 0 → (s : GergState) × (a ≡ answer.State s)) range temperature rho unrefused (λ e. laws.properties_accepted t m range temperature rho)
 
     module _ (out : List Float) where
-      pub fugacity-number : ofProperties.number_of (fugacity_in bytes list fractions range temperature rho out) ≤ 24
-      fugacity-number =
+      pub fugacity_number : ofProperties.number_of (fugacity_in bytes list fractions range temperature rho out) ≤ 24
+      fugacity_number =
           fugacity_through bytes list fractions (λ a l. ofProperties.number_of a ≤ 24) range temperature rho out (λ b. early 24 (omega arith)) (λ e. omega arith)
-          (λ e. omega (arith, laws.fugacity-number t m range temperature rho))
+          (λ e. omega (arith, laws.fugacity_number t m range temperature rho))
 
       pub fugacity_value : ofProperties.value_of (fugacity_in bytes list fractions range temperature rho out) < 2 ^ 32
       fugacity_value =
@@ -125,7 +125,7 @@ module _ (bytes list : List ℕ) (fractions : List Float) where
       fugacity_needed =
           fugacity_through bytes list fractions (λ a l. ofProperties.number_of a ≡ 24 → ofProperties.value_of a ≡ length list) range temperature rho out
           (λ b. late bytes list fractions 24 (omega arith)) (λ e h. components_listed bytes list fractions e)
-          (λ e h. absurd (twelve (laws.fugacity-number t m range temperature rho) h))
+          (λ e h. absurd (twelve (laws.fugacity_number t m range temperature rho) h))
         where
           twelve : {n : ℕ} → n ≤ 12 → n ≡ 24 → ⊥
           twelve a b = omega arith

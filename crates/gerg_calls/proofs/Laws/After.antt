@@ -91,8 +91,8 @@ module _ (t : Tables) (m : Mixed) (range : Range) (temperature rho : Float) wher
   pub properties_numbers : Late 12 (ofProperties.number_of (stated_of (evaluated_of t m range temperature rho)))
   properties_numbers = subst (Late 12) (sym (stated_number (evaluated_of t m range temperature rho))) evaluated_numbers
 
-  pub properties-number : ofProperties.number_of (stated_of (evaluated_of t m range temperature rho)) ≤ 12
-  properties-number = properties_numbers.most
+  pub properties_number : ofProperties.number_of (stated_of (evaluated_of t m range temperature rho)) ≤ 12
+  properties_number = properties_numbers.most
 
   pub fugacity_numbers : Late 12 (ofProperties.number_of (fugacity_after t m temperature rho (evaluated_of t m range temperature rho)))
   unfolding fugacity_after stated_of
@@ -103,8 +103,8 @@ module _ (t : Tables) (m : Mixed) (range : Range) (temperature rho : Float) wher
           subst (Late 12) (sym (with_number s (fugacity_of t m.model (gradient_rows m) s temperature rho))) (numbers.fugacity_numbers t m.model (gradient_rows m) s temperature rho)
       go (evaluated.Refused n) h = h
 
-  pub fugacity-number : ofProperties.number_of (fugacity_after t m temperature rho (evaluated_of t m range temperature rho)) ≤ 12
-  fugacity-number = fugacity_numbers.most
+  pub fugacity_number : ofProperties.number_of (fugacity_after t m temperature rho (evaluated_of t m range temperature rho)) ≤ 12
+  fugacity_number = fugacity_numbers.most
 
   pub fugacity_value : (e : EvaluateAnswer) → ofProperties.value_of (fugacity_after t m temperature rho e) ≡ 0
   unfolding fugacity_after stated_of
@@ -122,8 +122,8 @@ module _ (t : Tables) (m : Mixed) (range : Range) (temperature rho : Float) wher
   unfolding stated_of
   stated_accepted e h z = let p = h (sym (stated_number e) ∙ z) in (p.0, ap stated_of p.1)
 
-  pub properties-accepted : ofProperties.number_of (stated_of (evaluated_of t m range temperature rho)) ≡ 0 → (s : GergState) × (stated_of (evaluated_of t m range temperature rho) ≡ answer.State s)
-  properties-accepted = stated_accepted (evaluated_of t m range temperature rho) evaluated_accepted
+  pub properties_accepted : ofProperties.number_of (stated_of (evaluated_of t m range temperature rho)) ≡ 0 → (s : GergState) × (stated_of (evaluated_of t m range temperature rho) ≡ answer.State s)
+  properties_accepted = stated_accepted (evaluated_of t m range temperature rho) evaluated_accepted
 
   -- for its coefficients too
   pub fugacity_accepted :
