@@ -4,3 +4,5 @@ pub mod Carried
 pub mod Chosen
 pub mod Normal
 pub mod Inside
+-- The number of a refusal is not below 6, which a chromatograph's list needs.
+pub mod LateAfter

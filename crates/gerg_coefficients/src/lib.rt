@@ -89,9 +89,8 @@ pub fn read_tables(file: &[u8]) -> TableFile
     TableFile { answer, tables }
 }
 
-// The answer's number and value as one number, for callers in C.
-#[unsafe(no_mangle)]
-pub extern "C" fn gerg_tables_check(file: &[u8]) -> u64
+// The answer's number and value as one number, for callers in C (`gerg_coefficients_c` exports it).
+pub fn gerg_tables_check(file: &[u8]) -> u64
     ensures { result ≡ Answers.code_of (Answers.answer_of file.now) }
 {
     let mut doubles = [0.0; 4086];

@@ -4,3 +4,6 @@ pub mod Saturation
 pub mod Ends
 pub mod Numbers
 pub mod Answered
+-- The number of a refusal is not below 6, which a chromatograph's list needs.
+pub mod LateNumbers
+pub mod LateAnswered

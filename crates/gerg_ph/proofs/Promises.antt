@@ -49,10 +49,6 @@ module _ (t : Tables) (m : GergModel) (gradients : List (List Float)) (range : R
   pub number_at_most : number_of (pure_saturation_of t m gradients range pressure lo hi limit) ≤ 26
   number_at_most = (reports t m gradients range pressure lo hi limit).number
 
-  -- no refusal has the number of a row before 6
-  pub saturation_late : (number_of (pure_saturation_of t m gradients range pressure lo hi limit) ≡ 0 → ⊥) → 5 < number_of (pure_saturation_of t m gradients range pressure lo hi limit)
-  saturation_late = (reports t m gradients range pressure lo hi limit).late
-
   -- so `% 2^32` loses nothing of it
   pub value_below : T (fits binary64 lo) → T (fits binary64 hi) → value_of (pure_saturation_of t m gradients range pressure lo hi limit) < 2 ^ 32
   value_below f g = lt_of_le_of_lt (le_trans (reports t m gradients range pressure lo hi limit).most (at_most_60_trials f g)) (lit< tt)

@@ -12,3 +12,5 @@ pub mod RootList
 pub mod KeptRises
 -- what an accepted answer has written
 pub mod Written
+-- The number of a refusal is not below 6, which a chromatograph's list needs.
+pub mod LateKeptNumbers

@@ -4,3 +4,6 @@ pub mod Halved
 pub mod Bounded
 pub mod Halvings
 pub mod Reported
+-- The number of a refusal is not below 6, which a chromatograph's list needs.
+pub mod LateVerdicts
+pub mod LateReported

@@ -4,3 +4,5 @@ pub mod ScanFew
 pub mod ScanNumbers
 pub mod HalvingStays
 pub mod ScanRises
+-- The number of a refusal is not below 6, which a chromatograph's list needs.
+pub mod LateScanNumbers

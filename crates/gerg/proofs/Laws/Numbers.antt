@@ -1,4 +1,4 @@
--- `helmholtz` refuses by a number from 6 to 9, `evaluate` by one from 6 to 12. Assumes nothing.
+-- `helmholtz` refuses by a number at most 9, `evaluate` by a number at most 12, neither by 0. Assumes nothing.
 use mathlib.Core.Path.{◌≡◌, refl}
 use mathlib.Core.Bool.{Bool, true, false, not}
 use Prim.Native.Nat.{ℕ, ◌≤◌, ◌<◌}
@@ -23,24 +23,10 @@ use Rattle.gerg.specs.HelmholtzNumbers as helmholtz
 use Rattle.gerg.specs.Evaluate.{evaluate_of, admitted_answer, admitted_of, unstable, pressure_out, pressure_of, finite_state, state_of}
 use Rattle.gerg.specs.EvaluateNumbers as evaluate
 
--- the number of an answer: 0, or one past rows 1 to 5 and at most `last`
-pub record Late (last n : ℕ) : Type 0 where
-  pub most : n ≤ last
-  pub late : (n ≡ 0 → ⊥) → 5 < n
-
-pub late_none : (last : ℕ) → Late last 0
-late_none last = record { most = omega arith; late = λ h. absurd (h refl) }
-
-pub late_row : (last n : ℕ) → 5 < n → n ≤ last → Late last n
-late_row last n h k = record { most = k; late = λ z. h }
-
-pub late_wider : (less last n : ℕ) → less ≤ last → Late less n → Late last n
-late_wider less last n h k = let m = k.most in record { most = omega arith; late = k.late }
-
--- a refusal of rows 6 to 9
+-- a refusal of rows 6 to 9: its number is at most 9, and not 0
 abbrev pub Derived : HelmholtzAnswer → Type 0
 Derived (derived.Derivatives a) = Unit {0}
-Derived (derived.Refused n) = (5 < n) × (n ≤ 9)
+Derived (derived.Refused n) = (0 < n) × (n ≤ 9)
 
 rows_6_to_9 : (p q r f : Bool) (a : GergDerivatives) →
     Derived (pick p (derived.Refused 6) (pick q (derived.Refused 7) (pick r (derived.Refused 8) (pick f (derived.Derivatives a) (derived.Refused 9)))))
@@ -53,7 +39,7 @@ rows_6_to_9 false false false false a = (omega arith, omega arith)
 -- and of rows 10 to 12 besides
 abbrev pub Evaluated : EvaluateAnswer → Type 0
 Evaluated (evaluated.State s) = Unit {0}
-Evaluated (evaluated.Refused n) = (5 < n) × (n ≤ 12)
+Evaluated (evaluated.Refused n) = (0 < n) × (n ≤ 12)
 
 rows_10_to_12 : (p q f : Bool) (s : GergState) → Evaluated (pick p (evaluated.Refused 10) (pick q (evaluated.Refused 11) (pick f (evaluated.State s) (evaluated.Refused 12))))
 rows_10_to_12 true q f s = (omega arith, omega arith)
@@ -78,28 +64,25 @@ module _ (t : Tables) (m : GergModel) (range : Range) (temperature rho : Float) 
   unfolding evaluate_of
   evaluate_rows = after temperature rho m.molar_mass range.pressure_high (helmholtz_of t m range temperature rho) helmholtz_rows
 
-  pub helmholtz_numbers : Late 9 (helmholtz.number_of (helmholtz_of t m range temperature rho))
-  helmholtz_numbers = go (helmholtz_of t m range temperature rho) helmholtz_rows
+  pub helmholtz_at_most_9 : helmholtz.number_of (helmholtz_of t m range temperature rho) ≤ 9
+  helmholtz_at_most_9 = go (helmholtz_of t m range temperature rho) helmholtz_rows
     where
-      go : (h : HelmholtzAnswer) → Derived h → Late 9 (helmholtz.number_of h)
-      go (derived.Derivatives a) d = late_none 9
-      go (derived.Refused n) d = late_row 9 n d.0 d.1
-
-  pub evaluate_numbers : Late 12 (evaluate.number_of (evaluate_of t m range temperature rho))
-  evaluate_numbers = go (evaluate_of t m range temperature rho) evaluate_rows
-    where
-      go : (e : EvaluateAnswer) → Evaluated e → Late 12 (evaluate.number_of e)
-      go (evaluated.State s) d = late_none 12
-      go (evaluated.Refused n) d = late_row 12 n d.0 d.1
+      go : (h : HelmholtzAnswer) → Derived h → helmholtz.number_of h ≤ 9
+      go (derived.Derivatives a) d = omega arith
+      go (derived.Refused n) d = d.1
 
   pub evaluate_at_most_12 : evaluate.number_of (evaluate_of t m range temperature rho) ≤ 12
-  evaluate_at_most_12 = evaluate_numbers.most
+  evaluate_at_most_12 = go (evaluate_of t m range temperature rho) evaluate_rows
+    where
+      go : (e : EvaluateAnswer) → Evaluated e → evaluate.number_of e ≤ 12
+      go (evaluated.State s) d = omega arith
+      go (evaluated.Refused n) d = d.1
 
   -- number 0 means a state
   pub evaluate_accepted : evaluate.number_of (evaluate_of t m range temperature rho) ≡ 0 → (s : GergState) × (evaluate_of t m range temperature rho ≡ evaluated.State s)
   evaluate_accepted = go (evaluate_of t m range temperature rho) evaluate_rows
     where
-      unlike : (n : ℕ) → 5 < n → n ≡ 0 → ⊥
+      unlike : (n : ℕ) → 0 < n → n ≡ 0 → ⊥
       unlike n h e = omega arith
 
       go : (a : EvaluateAnswer) → Evaluated a → evaluate.number_of a ≡ 0 → (s : GergState) × (a ≡ evaluated.State s)

@@ -19,11 +19,11 @@ use Rattle.gerg.specs.Helmholtz.{normal_range}
 use Rattle.gerg.specs.declared.Range.{Range}
 use Rattle.gerg_search.specs.declared.Options.{Options}
 use Rattle.gerg_density.specs.DensityNumbers as ofDensity
-use Rattle.gerg_density.proofs.Laws.Numbers.{density_late}
+use Rattle.gerg_density.proofs.Laws.LateNumbers.{density_late}
 use Rattle.gerg_root_list.specs.RootsNumbers as ofRoots
-use Rattle.gerg_flash.proofs.Laws.Numbers.{roots_late}
+use Rattle.gerg_flash.proofs.Laws.LateNumbers.{roots_late}
 use Rattle.gerg_saturation.specs.SaturationNumbers as ofSaturation
-use Rattle.gerg_ph.proofs.Promises.{saturation_late}
+use Rattle.gerg_ph.proofs.Laws.LateAnswered.{saturation_late}
 use Rattle.gerg_prepared.specs.Mixed.{gradient_rows, mixed_of, number_of}
 use Rattle.gerg_prepared.specs.declared.Mixed.{Mixed}
 use Rattle.gerg_prepared.specs.declared.Refusal.{Refusal}
@@ -32,7 +32,7 @@ use Rattle.gerg_answers.specs.Answers.{list_reported, list_code}
 use Rattle.gerg_answers.specs.PropertiesNumbers as ofProperties
 use Rattle.gerg_answers.proofs.Laws.{list_code_lem, list_number, list_below}
 use Rattle.gerg_calls.specs.Calls.{properties_in, fugacity_in, density_in}
-use Rattle.gerg_calls.proofs.Laws.After.{properties_numbers, fugacity_numbers}
+use Rattle.gerg_calls.proofs.Laws.LateAfter.{properties_numbers, fugacity_numbers}
 use Rattle.gerg_calls.proofs.Laws.Carried.{properties_through, fugacity_through, density_through}
 use Rattle.gerg_equilibrium.specs.Equilibrium.{roots_call, saturation_call}
 use Rattle.gerg_equilibrium.proofs.Laws.Carried.{roots_through, saturation_through}

@@ -18,7 +18,7 @@ use Rattle.gerg_fugacity.specs.Fugacity.{ln_phis, fugacity_of, fugacity_memory}
 use Rattle.gerg_fugacity.specs.FugacityNumbers as ofFugacity
 use Rattle.gerg_fugacity.specs.declared.fugacity.FugacityCheck.{FugacityCheck}
 use Rattle.gerg_fugacity.specs.declared.fugacity.FugacityCheck.TheVariants as coefficients
-use Rattle.gerg.proofs.Laws.Numbers.{Late, evaluate_numbers, evaluate_accepted}
+use Rattle.gerg.proofs.Laws.Numbers.{evaluate_at_most_12, evaluate_accepted}
 use Rattle.gerg_fugacity.proofs.Laws.Numbers as numbers
 use Rattle.gerg_density.specs.Density.{density_of}
 use Rattle.gerg_search.specs.declared.Options.{Options}
@@ -84,27 +84,22 @@ with_value s coefficients.Sound = refl
 with_value s (coefficients.Refused n v) = refl
 
 module _ (t : Tables) (m : Mixed) (range : Range) (temperature rho : Float) where
-  evaluated_numbers : Late 12 (ofEvaluate.number_of (evaluated_of t m range temperature rho))
+  evaluated_number : ofEvaluate.number_of (evaluated_of t m range temperature rho) ≤ 12
   unfolding evaluated_of
-  evaluated_numbers = evaluate_numbers t m.model range temperature rho
-
-  pub properties_numbers : Late 12 (ofProperties.number_of (stated_of (evaluated_of t m range temperature rho)))
-  properties_numbers = subst (Late 12) (sym (stated_number (evaluated_of t m range temperature rho))) evaluated_numbers
+  evaluated_number = evaluate_at_most_12 t m.model range temperature rho
 
   pub properties_number : ofProperties.number_of (stated_of (evaluated_of t m range temperature rho)) ≤ 12
-  properties_number = properties_numbers.most
-
-  pub fugacity_numbers : Late 12 (ofProperties.number_of (fugacity_after t m temperature rho (evaluated_of t m range temperature rho)))
-  unfolding fugacity_after stated_of
-  fugacity_numbers = go (evaluated_of t m range temperature rho) evaluated_numbers
-    where
-      go : (e : EvaluateAnswer) → Late 12 (ofEvaluate.number_of e) → Late 12 (ofProperties.number_of (fugacity_after t m temperature rho e))
-      go (evaluated.State s) h =
-          subst (Late 12) (sym (with_number s (fugacity_of t m.model (gradient_rows m) s temperature rho))) (numbers.fugacity_numbers t m.model (gradient_rows m) s temperature rho)
-      go (evaluated.Refused n) h = h
+  properties_number = subst (λ (n : ℕ). n ≤ 12) (sym (stated_number (evaluated_of t m range temperature rho))) evaluated_number
 
   pub fugacity_number : ofProperties.number_of (fugacity_after t m temperature rho (evaluated_of t m range temperature rho)) ≤ 12
-  fugacity_number = fugacity_numbers.most
+  unfolding fugacity_after stated_of
+  fugacity_number = go (evaluated_of t m range temperature rho) evaluated_number
+    where
+      go : (e : EvaluateAnswer) → ofEvaluate.number_of e ≤ 12 → ofProperties.number_of (fugacity_after t m temperature rho e) ≤ 12
+      go (evaluated.State s) h =
+          let c = fugacity_of t m.model (gradient_rows m) s temperature rho in
+          omega (arith, with_number s c, numbers.fugacity_at_most_12 t m.model (gradient_rows m) s temperature rho)
+      go (evaluated.Refused n) h = h
 
   pub fugacity_value : (e : EvaluateAnswer) → ofProperties.value_of (fugacity_after t m temperature rho e) ≡ 0
   unfolding fugacity_after stated_of

@@ -26,11 +26,11 @@ scale_positive target t = go (lt target one)
     go false = t
 
 -- a refusal of the trial itself is row 12 or 15
-pub sample_stopped : (target p derivative : Float) (n : ℕ) → sample_of target p derivative ≡ Stopped n → (5 < n) × (n < 16)
+pub sample_stopped : (target p derivative : Float) (n : ℕ) → sample_of target p derivative ≡ Stopped n → (0 < n) × (n < 16)
 unfolding sample_of
 sample_stopped target p derivative n e = go (not (finite p) || not (finite derivative)) (le derivative +0) e
   where
-    go : (a b : Bool) → pick a (Stopped 12) (pick b (Stopped 15) (Residual ((p ⊖ target) ⊘ scale_of target) (derivative ⊘ scale_of target))) ≡ Stopped n → (5 < n) × (n < 16)
+    go : (a b : Bool) → pick a (Stopped 12) (pick b (Stopped 15) (Residual ((p ⊖ target) ⊘ scale_of target) (derivative ⊘ scale_of target))) ≡ Stopped n → (0 < n) × (n < 16)
     go true b e = let q : 12 ≡ n = cc in (omega arith, omega arith)
     go false true e = let q : 15 ≡ n = cc in (omega arith, omega arith)
     go false false e = differ (cc)

@@ -2,7 +2,7 @@
 use mathlib.Core.Bool.{Bool, true, false}
 use mathlib.Core.List.{List}
 use mathlib.Core.Path.{◌≡◌, refl}
-use Prim.Native.Nat.{ℕ}
+use Prim.Native.Nat.{ℕ, ◌≤◌}
 use native.Mathlib.Omega.{arith}
 use lib.Ieee.{Float}
 use Rattle.numerics.specs.Double.{pick}
@@ -10,14 +10,13 @@ use Rattle.gerg_tables.specs.declared.Tables.{Tables}
 use Rattle.gerg_reducing.specs.declared.GergModel.{GergModel}
 use Rattle.gerg_model.specs.Mixture.{all_finite}
 use Rattle.gerg.specs.declared.GergState.{GergState}
-use Rattle.gerg.proofs.Laws.Numbers.{Late, late_none, late_row}
 use Rattle.gerg_fugacity.specs.declared.fugacity.FugacityCheck.TheVariants.{Sound, Refused}
 use Rattle.gerg_fugacity.specs.Fugacity.{ln_phis, fugacity_of}
 use Rattle.gerg_fugacity.specs.FugacityNumbers.{number_of, value_of}
 
-number_of_lem : (b : Bool) → Late 12 (number_of (pick b Sound (Refused 12 0)))
-number_of_lem true = late_none 12
-number_of_lem false = late_row 12 12 (omega arith) (omega arith)
+number_of_lem : (b : Bool) → number_of (pick b Sound (Refused 12 0)) ≤ 12
+number_of_lem true = omega arith
+number_of_lem false = omega arith
 
 value_of_lem : (b : Bool) → value_of (pick b Sound (Refused 12 0)) ≡ 0
 value_of_lem true = refl
@@ -31,9 +30,9 @@ sound_of false e = absurd (twelve e)
     twelve e = omega arith
 
 module _ (t : Tables) (m : GergModel) (gradients : List (List Float)) (s : GergState) (T rho : Float) where
-  pub fugacity_numbers : Late 12 (number_of (fugacity_of t m gradients s T rho))
+  pub fugacity_at_most_12 : number_of (fugacity_of t m gradients s T rho) ≤ 12
   unfolding fugacity_of
-  fugacity_numbers = number_of_lem (all_finite (ln_phis t m gradients s T rho) m.components)
+  fugacity_at_most_12 = number_of_lem (all_finite (ln_phis t m gradients s T rho) m.components)
 
   pub fugacity_value_0 : value_of (fugacity_of t m gradients s T rho) ≡ 0
   unfolding fugacity_of

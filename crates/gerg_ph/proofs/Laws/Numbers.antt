@@ -1,9 +1,10 @@
--- A temperature is refused by one of the rows 6 to 23: the searches for roots by one before 23, and that there is no root. Assumes nothing.
+-- A temperature is refused by a row before 24 and not by 0: the searches for roots by one before 23, and that there is no root. Assumes nothing.
 use mathlib.Core.Path.{◌≡◌, refl}
 use mathlib.Core.Bool.{Bool, true, false}
 use mathlib.Core.List.{List, []}
-use Prim.Native.Nat.{ℕ, ◌-◌}
+use Prim.Native.Nat.{ℕ, ◌-◌, ◌≤◌, ◌<◌}
 use native.Mathlib.Nat.{le_trans}
+use native.Mathlib.Omega.{arith}
 use borrow.Author.Tests.{eqb-false}
 use lib.Dec.{eqb, lit≤}
 use lib.Ieee.{Float}
@@ -12,7 +13,6 @@ use Rattle.numerics.specs.Double.{pick}
 use Rattle.gerg_tables.specs.declared.Tables.{Tables}
 use Rattle.gerg_reducing.specs.declared.GergModel.{GergModel}
 use Rattle.gerg.specs.declared.Range.{Range}
-use Rattle.gerg.proofs.Laws.Numbers.{Late}
 use Rattle.gerg_root_list.specs.RootList.{Kept, beyond_five, within_envelope}
 use Rattle.gerg_flash.specs.Roots.{searched_of}
 use Rattle.gerg_flash.proofs.Laws.Numbers.{searched_number}
@@ -24,7 +24,7 @@ use Rattle.gerg_saturation.specs.declared.Sample.{Sample}
 use Rattle.gerg_saturation.specs.declared.Sample.TheVariants as sampled
 use Rattle.gerg_saturation.proofs.Laws.Verdicts.{Numbered, SampleNumbered, coexisting_number, by_sample}
 
-roots_number : (reducing : Float) (place : ℕ) (temperature pressure : Float) (k : Kept) → Late 22 k.refused → SampleNumbered 23 (roots_sample reducing place temperature pressure k)
+roots_number : (reducing : Float) (place : ℕ) (temperature pressure : Float) (k : Kept) → k.refused ≤ 22 → SampleNumbered 23 (roots_sample reducing place temperature pressure k)
 unfolding roots_sample
 roots_number reducing place temperature pressure k p =
     let n = length k.heads - 1 in
@@ -32,13 +32,16 @@ roots_number reducing place temperature pressure k p =
     (coexisting_of place temperature pressure (get_or k.heads n []) (get_or k.coefficients n []) (get_or k.heads 0 []) (get_or k.coefficients 0 []))
     (coexisting_number 23 place temperature pressure (get_or k.heads n []) (get_or k.coefficients n []) (get_or k.heads 0 []) (get_or k.coefficients 0 []))
   where
+    some : (n : ℕ) → (n ≡ 0 → ⊥) → 0 < n
+    some n h = omega arith
+
     go :
         (a : Bool) → eqb k.refused 0 ≡ a → (b c : Bool) (sign : Float) (more : Sample) → SampleNumbered 23 more →
         SampleNumbered 23 (pick a (pick b (sampled.Refused 23) (pick c (sampled.Single sign) more)) (sampled.Refused k.refused))
     go true e true c sign more q = (lit≤ tt, lit≤ tt)
     go true e false true sign more q = tt
     go true e false false sign more q = q
-    go false e b c sign more q = (p.late (eqb-false k.refused 0 e), le_trans p.most (lit≤ tt))
+    go false e b c sign more q = (some k.refused (eqb-false k.refused 0 e), le_trans p (lit≤ tt))
 
 sample_number : (t : Tables) (m : GergModel) (gradients : List (List Float)) (range : Range) (pressure x : Float) → SampleNumbered 23 (sample_of t m gradients range pressure x)
 unfolding sample_of

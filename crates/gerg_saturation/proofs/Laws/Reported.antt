@@ -1,4 +1,4 @@
--- What an answer reports: a number of at most 26, of a refusal from 6 on; with row 26 the length of the list of trials, with every other number the value 0. Assumes nothing.
+-- What an answer reports: a number of at most 26, of a refusal never 0; with row 26 the length of the list of trials, with every other number the value 0. Assumes nothing.
 use mathlib.Core.Path.{◌≡◌, refl}
 use mathlib.Core.Logic.{◌⊎◌, inl, inr}
 use mathlib.Core.Bool.{Bool, true, false, not, ◌||◌}
@@ -23,7 +23,6 @@ use Rattle.gerg_saturation.proofs.Laws.Verdicts.{Numbered}
 -- `trials` is the length of the list
 pub record Reports (a : SaturationAnswer) (trials : ℕ) : Type 0 where
   pub number : number_of a ≤ 26
-  pub late : (number_of a ≡ 0 → ⊥) → 5 < number_of a
   pub row_26 : number_of a ≡ 26 → value_of a ≡ trials
   pub others : (number_of a ≡ 26 → ⊥) → value_of a ≡ 0
   pub most : value_of a ≤ trials
@@ -34,25 +33,25 @@ module _ (trials : ℕ) where
   unlike n h e = omega arith
 
   found : (s : PureSaturation) → Reports (Found s) trials
-  found s = record { number = zero-le; late = λ n. absurd (n refl); row_26 = λ e. absurd (unlike 0 zero-le e); others = λ n. refl; most = zero-le; accepted = λ e. inl (s, refl) }
+  found s = record { number = zero-le; row_26 = λ e. absurd (unlike 0 zero-le e); others = λ n. refl; most = zero-le; accepted = λ e. inl (s, refl) }
 
   none : Reports NotEnclosed trials
-  none = record { number = zero-le; late = λ n. absurd (n refl); row_26 = λ e. absurd (unlike 0 zero-le e); others = λ n. refl; most = zero-le; accepted = λ e. inr refl }
+  none = record { number = zero-le; row_26 = λ e. absurd (unlike 0 zero-le e); others = λ n. refl; most = zero-le; accepted = λ e. inr refl }
 
-  some : (n : ℕ) → 5 < n → n ≡ 0 → ⊥
+  some : (n : ℕ) → 0 < n → n ≡ 0 → ⊥
   some n h e = omega arith
 
-  pub refused : (n : ℕ) → 5 < n → n ≤ 25 → Reports (Refused n 0) trials
-  refused n g h = record { number = le_trans h (lit≤ tt); late = λ e. g; row_26 = λ e. absurd (unlike n h e); others = λ e. refl; most = zero-le; accepted = λ e. absurd (some n g e) }
+  pub refused : (n : ℕ) → 0 < n → n ≤ 25 → Reports (Refused n 0) trials
+  refused n g h = record { number = le_trans h (lit≤ tt); row_26 = λ e. absurd (unlike n h e); others = λ e. refl; most = zero-le; accepted = λ e. absurd (some n g e) }
 
   ended : Reports (Refused 26 trials) trials
-  ended = record { number = lit≤ tt; late = λ e. lit≤ tt; row_26 = λ e. refl; others = λ n. absurd (n refl); most = le_refl trials; accepted = λ e. absurd (some 26 (lit≤ tt) e) }
+  ended = record { number = lit≤ tt; row_26 = λ e. refl; others = λ n. absurd (n refl); most = le_refl trials; accepted = λ e. absurd (some 26 (lit≤ tt) e) }
 
   either : (q : Bool) (a : SaturationAnswer) → Reports a trials → Reports (pick q (Refused 26 trials) a) trials
   either true a r = ended
   either false a r = r
 
--- a temperature is refused by rows 6 to 23 alone
+-- no temperature is refused by row 24 or later, nor by 0
 module _ (v : Float → Verdict) (few : (x : Float) → Numbered 23 (v x)) where
   early : (trials n : ℕ) → Numbered 23 (verdict.Refused n) → Reports (Refused n 0) trials
   early trials n h = refused trials n h.0 (le_trans h.1 (lit≤ tt))

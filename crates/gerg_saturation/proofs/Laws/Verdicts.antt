@@ -17,16 +17,16 @@ use Rattle.gerg_saturation.specs.declared.Sample.TheVariants as sampled
 use Rattle.gerg_saturation.specs.declared.Verdict.{Verdict}
 use Rattle.gerg_saturation.specs.declared.Verdict.TheVariants.{Accepted, Apart, Refused}
 
--- a refusal is by one of the rows 6 to `most`
+-- a refusal is by one of the rows 1 to `most`, never by 0
 abbrev pub Numbered : ℕ → Verdict → Type 0
 Numbered most (Accepted s) = Unit {0}
 Numbered most (Apart d) = Unit {0}
-Numbered most (Refused n) = (5 < n) × (n ≤ most)
+Numbered most (Refused n) = (0 < n) × (n ≤ most)
 
 abbrev pub SampleNumbered : ℕ → Sample → Type 0
 SampleNumbered most (sampled.Single sign) = Unit {0}
 SampleNumbered most (sampled.Coexisting difference s) = Unit {0}
-SampleNumbered most (sampled.Refused n) = (5 < n) × (n ≤ most)
+SampleNumbered most (sampled.Refused n) = (0 < n) × (n ≤ most)
 
 pub coexisting_number : (most place : ℕ) (temperature pressure : Float) (a b c d : List Float) → SampleNumbered most (coexisting_of place temperature pressure a b c d)
 unfolding coexisting_of

@@ -1,4 +1,4 @@
--- Every search ends, whatever its options and verdicts: its last step accepts or refuses. It refuses by 6 to 19, and by 18 and 19 alone with a value. Assumes nothing.
+-- Every search ends, whatever its options and verdicts: its last step accepts or refuses. It refuses by 1 to 19, never by 0, and by 18 and 19 alone with a value. Assumes nothing.
 use mathlib.Core.Path.{◌≡◌, refl, sym, ap, ◌∙◌, subst}
 use mathlib.Core.Bool.{Bool, true, false, not, ◌||◌}
 use Prim.Native.Nat.{ℕ, zero, suc, ◌+◌, ◌≤◌, ◌<◌}
@@ -84,7 +84,7 @@ module _ (o : Options) (v : Float → Sample) where
 
 -- ---- the numbers of refusals: those of the trials, rows 13, 14, 16, 18 and 19
 abbrev pub Row : ℕ → Type 0
-Row n = (5 < n) × (n ≤ 19)
+Row n = (0 < n) × (n ≤ 19)
 
 is_row : (k n : ℕ) → Row k → Refused k ≡ Refused n → Row n
 is_row k n r e = let q : k ≡ n = cc in subst Row q r
