@@ -1,14 +1,11 @@
 -- What a trial is refused by: rows 12 and 15. Assumes nothing.
-use mathlib.Core.Path.{◌≡◌, refl, subst}
+use mathlib.Core.Path.{◌≡◌}
 use mathlib.Core.Bool.{Bool, true, false, not, ◌||◌}
 use Prim.Native.Nat.{ℕ, ◌<◌}
 use native.Mathlib.Omega.{arith}
-use lib.Dec.{T}
-use lib.Ieee.{Float, of_bits, lt, le}
+use lib.Ieee.{Float, le}
 use lib.Ieee.Scale.{finite}
-use lib.Ieee.Positive.{positive}
-use Rattle.numerics.specs.Double.{◌⊖◌, ◌⊘◌, +0, one, pick}
-use Rattle.numerics.specs.Quotient.{Signs, signs}
+use Rattle.numerics.specs.Double.{◌⊖◌, ◌⊘◌, +0, pick}
 use Rattle.gerg_search.proofs.Laws.Differ.{differ}
 use Rattle.gerg_density.specs.Trial.{scale_of, sample_of}
 use Rattle.gerg_search.specs.declared.Sample.TheVariants.{Residual, Stopped}

@@ -1,22 +1,17 @@
 -- A trial of the equation refuses by a number from 6 to 15. Assumes nothing.
-use mathlib.Core.Path.{◌≡◌, refl}
+use mathlib.Core.Path.{◌≡◌}
 use Prim.Native.Nat.{ℕ, ◌<◌}
 use native.Mathlib.Omega.{arith}
-use lib.Dec.{T}
 use lib.Ieee.{Float}
-use lib.Ieee.Positive.{positive}
 use Rattle.gerg_tables.specs.declared.Tables.{Tables}
 use Rattle.gerg_reducing.specs.declared.GergModel.{GergModel}
 use Rattle.gerg.specs.declared.Range.{Range}
 use Rattle.gerg.specs.declared.helmholtz.HelmholtzAnswer.{HelmholtzAnswer}
 use Rattle.gerg.specs.Helmholtz.{helmholtz_of}
 use Rattle.gerg.proofs.Laws.LateNumbers.{Derived, helmholtz_rows}
-use Rattle.gerg_search.proofs.Laws.Differ.{differ}
 use Rattle.gerg_density.specs.Trial.{trial_pressure, trial_stiffness}
 use Rattle.gerg_density.specs.Density.{trial_of, verdict_of}
-use Rattle.gerg_density.specs.Promised.{Computed}
-use Rattle.gerg_search.specs.declared.Sample.TheVariants.{Residual, Stopped}
-use Rattle.gerg_search.proofs.Laws.Verdicts.{Fair}
+use Rattle.gerg_search.specs.declared.Sample.TheVariants.{Stopped}
 use Rattle.gerg_density.proofs.Laws.LateTrial.{sample_stopped}
 
 module _ (t : Tables) (m : GergModel) (range : Range) (temperature target : Float) where

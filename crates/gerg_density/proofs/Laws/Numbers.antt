@@ -3,9 +3,7 @@ use mathlib.Core.Path.{◌≡◌, refl, ap}
 use mathlib.Core.Bool.{Bool, true, false}
 use Prim.Native.Nat.{ℕ, ◌≤◌, ◌<◌}
 use native.Mathlib.Omega.{arith}
-use borrow.Author.Tests.{ne_eqb}
 use lib.Ieee.{Float}
-use lib.ListN.{length}
 use Rattle.numerics.specs.Double.{pick}
 use Rattle.gerg_tables.specs.declared.Tables.{Tables}
 use Rattle.gerg_reducing.specs.declared.GergModel.{GergModel}
@@ -13,16 +11,11 @@ use Rattle.gerg.specs.declared.Range.{Range}
 use Rattle.gerg.specs.declared.evaluate.EvaluateAnswer.{EvaluateAnswer}
 use Rattle.gerg.specs.Evaluate.{evaluate_of}
 use Rattle.gerg.proofs.Laws.Numbers.{Evaluated, evaluate_rows}
-use Rattle.gerg_search.specs.Checks.{options_refused, target_refused}
-use Rattle.gerg_search.specs.Run.{searched, last_of, answer_of, refusal_value, reported, outcome_of}
 use Rattle.gerg_density.specs.Density.{verdict_of, search_of, residual_of, beyond_of, checked_of, finished_of, density_of}
 use Rattle.gerg_density.specs.DensityNumbers.{number_of, value_of}
 use Rattle.gerg_search.specs.declared.Bracket.{Bracket}
 use Rattle.gerg_search.specs.declared.Options.{Options}
-use Rattle.gerg_search.specs.declared.Sample.{Sample}
 use Rattle.gerg_search.specs.declared.Sample.TheVariants.{Stopped}
-use Rattle.gerg_search.specs.declared.Step.{Step}
-use Rattle.gerg_search.specs.declared.Step.TheVariants as step
 use Rattle.gerg_search.specs.declared.Outcome.{Outcome}
 use Rattle.gerg_search.specs.declared.Outcome.TheVariants.{Found, Failed}
 use Rattle.gerg_density.specs.declared.DensityResult.{DensityResult}
