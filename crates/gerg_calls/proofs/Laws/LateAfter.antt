@@ -1,37 +1,23 @@
 -- What follows rows 1 to 5 is refused by a number from 6 to 12. Assumes nothing.
-use mathlib.Core.Path.{◌≡◌, refl, sym, ap, ◌∙◌, subst}
-use mathlib.Core.List.{List}
-use Prim.Native.Nat.{ℕ, ◌≤◌}
-use native.Mathlib.Omega.{arith}
-use lib.Ieee.{Float, nan}
-use lib.ListN.{get_or}
-use Rattle.numerics.specs.Fill.{filled}
+use mathlib.Core.Path.{◌≡◌, refl, sym, subst}
+use lib.Ieee.{Float}
 use Rattle.gerg_tables.specs.declared.Tables.{Tables}
-use Rattle.gerg_coefficients.specs.Answer.{answer_of, tables_of}
 use Rattle.gerg.specs.declared.Range.{Range}
-use Rattle.gerg.specs.Evaluate.{evaluate_of}
 use Rattle.gerg.specs.declared.GergState.{GergState}
 use Rattle.gerg.specs.declared.evaluate.EvaluateAnswer.{EvaluateAnswer}
 use Rattle.gerg.specs.declared.evaluate.EvaluateAnswer.TheVariants as evaluated
 use Rattle.gerg.specs.EvaluateNumbers as ofEvaluate
-use Rattle.gerg_fugacity.specs.Fugacity.{ln_phis, fugacity_of, fugacity_memory}
+use Rattle.gerg_fugacity.specs.Fugacity.{fugacity_of}
 use Rattle.gerg_fugacity.specs.FugacityNumbers as ofFugacity
 use Rattle.gerg_fugacity.specs.declared.fugacity.FugacityCheck.{FugacityCheck}
 use Rattle.gerg_fugacity.specs.declared.fugacity.FugacityCheck.TheVariants as coefficients
 use Rattle.gerg.proofs.Laws.LateNumbers.{Late, evaluate_numbers}
 use Rattle.gerg_fugacity.proofs.Laws.LateNumbers as numbers
-use Rattle.gerg_density.specs.Density.{density_of}
-use Rattle.gerg_search.specs.declared.Options.{Options}
-use Rattle.gerg_density.specs.declared.DensityAnswer.TheVariants as density
-use Rattle.gerg_prepared.specs.Mixed.{mixed_of, gradient_rows}
+use Rattle.gerg_prepared.specs.Mixed.{gradient_rows}
 use Rattle.gerg_prepared.specs.declared.Mixed.{Mixed}
-use Rattle.gerg_prepared.specs.declared.Refusal.TheVariants.{Nothing}
-use Rattle.gerg_prepared.proofs.Laws.{after_nothing, same_mixed}
 use Rattle.gerg_answers.specs.PropertiesNumbers as ofProperties
-use Rattle.gerg_answers.specs.declared.PropertiesAnswer.TheVariants as answer
-use Rattle.gerg_calls.specs.Calls.{stated_of, evaluated_of, properties_from, properties_in, with_coefficients, fugacity_after, memory_after, density_in, density_from}
+use Rattle.gerg_calls.specs.Calls.{stated_of, evaluated_of, with_coefficients, fugacity_after}
 use Rattle.gerg_calls.proofs.Laws.After.{stated_number}
-use Rattle.gerg_fugacity.proofs.Laws.Memory.{fugacity_leaves, fugacity_writes}
 
 -- ---- a state's coefficients
 with_number : (s : GergState) (c : FugacityCheck) → ofProperties.number_of (with_coefficients s c) ≡ ofFugacity.number_of c
