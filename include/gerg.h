@@ -55,7 +55,7 @@ enum gerg_refusal {
     GERG_BAD_FILE = 1,                /* a record cut, missing, out of turn, with a count over its limit or of another revision, or bytes over: offset */
     GERG_BAD_TABLE = 2,               /* nonfinite bt, bv, gt, gv, f: 1 to 5; Tc or mass: 6; bt or bv not positive: 7; mNumb: 8 */
     GERG_BAD_LIST = 3,                /* list empty, over 21, a number unknown or repeated: first bad place from 0 */
-    GERG_BAD_FRACTIONS = 4,           /* length differs (of parts too): list length; nonfinite or negative: first bad place from 0; sum not 1: list length */
+    GERG_BAD_FRACTIONS = 4,           /* length differs: list length; nonfinite or negative: first bad place from 0; sum not 1: list length */
     GERG_BAD_REDUCING_VALUES = 5,     /* reducing values not finite and positive, or a gradient nonfinite */
     GERG_DENSITY_NONFINITE = 6,
     GERG_DENSITY_NOT_POSITIVE = 7,
@@ -75,7 +75,7 @@ enum gerg_refusal {
     GERG_ROOTS_OUT_OF_RANGE = 21,     /* T not in 230..350 or p not in 1e5..1e7 */
     GERG_ROOT_NOT_CONVERGED = 22,
     GERG_NO_ROOT = 23,
-    GERG_OUT_TOO_SHORT = 24,          /* doubles needed; of a chromatograph's list: places or bytes needed */
+    GERG_OUT_TOO_SHORT = 24,          /* doubles needed */
     GERG_BAD_SATURATION = 25,         /* not one positive fraction, or ends nonfinite or not rising */
     GERG_SATURATION_EXHAUSTED = 26,   /* limit made, or the middle falls on an end: trials */
     GERG_ZERO_SEED = 27,              /* states: the seed is 0 */
@@ -204,12 +204,13 @@ uint64_t gerg_count_refusals(const uint8_t *file, size_t file_len, const uint8_t
 
 /* Components, parts and fractions of a chromatograph's list, in its order, each fraction the double nearest to its parts over 1,000,000: list and
  * fractions as the calls above take them. Refused in this order: 28, a wrong record anywhere in the bytes; 3, no record, over 21, a component unknown or
- * repeated; 29; 24. Value: the number of records. Each of the three lists needs so many places, and its places past them stay. */
+ * repeated; 29; 24, value: the places needed. Value: the number of records. Each of the three lists needs so many places, and its places past them stay. */
 uint64_t gerg_read_list(const uint8_t *bytes, size_t bytes_len, uint8_t *list, size_t list_len, uint32_t *parts, size_t parts_len,
                         double *fractions, size_t fractions_len);
 
-/* The chromatograph's list that gerg_read_list reads as these components and parts. Refused in this order: 3; 4, as many parts as components; 29, with the
- * exact total, past 2^32 too; 24. Value: the number of bytes, GERG_RECORD_BYTES * list_len. Bytes of `out` past them stay. */
+/* The chromatograph's list that gerg_read_list reads as these components and parts. Refused in this order: 3; 4, parts not as many as components,
+ * value: list_len; 29, by the exact total, past 2^32 too; 24, value: the bytes needed. Value: the number of bytes, GERG_RECORD_BYTES * list_len. Bytes of `out`
+ * past them stay. */
 uint64_t gerg_write_list(const uint8_t *list, size_t list_len, const uint32_t *parts, size_t parts_len, uint8_t *out, size_t out_len);
 
 static inline uint32_t gerg_number(uint64_t answer) { return (uint32_t)(answer >> 32); }

@@ -19,7 +19,9 @@ import ctypes
 import os
 from typing import NamedTuple
 
-from gerg_archive import CAUSES, COMPONENTS, RANGES, ROOT, Refusal, fits, number_of, value_of  # CAUSES for callers
+from gerg_archive import CAUSES, LIST_CAUSES  # for callers
+from gerg_archive import COMPONENTS, RANGES, ROOT, Refusal, fits, number_of, value_of
+from gerg_archive import EXPORTS as _EXPORTS
 
 DEFAULT_FILE = os.path.join(ROOT, "data", "gerg-2008.bin")
 
@@ -210,7 +212,7 @@ def read_list(data):
 
 
 def write_list(components, parts):
-    """The chromatograph's bytes of components, by name or number, and as many whole parts, which must total 1,000,000."""
+    """The chromatograph's bytes of components, by name or number, and as many whole parts (else number 4), which must total 1,000,000."""
     numbers, parts = bytes(number_of(component) for component in components), list(parts)
     for each in parts:
         fits(parts=each)

@@ -35,7 +35,8 @@ pub fn read_list(bytes: &[u8]) -> Result<List, Refusal> {
 }
 
 /// Writes a chromatograph's list from components and as many parts per million, which must total 1,000,000; zero parts are allowed. Read back it has the
-/// same components and parts, and a list that was read has the same bytes when it is written again.
+/// same components and parts, and a list that was read has the same bytes when it is written again. Parts that are not as many as the components are refused
+/// under number 4, `BadFractions`, with the number of components.
 ///
 /// ```
 /// use gerg::Component::*;
