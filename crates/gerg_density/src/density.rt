@@ -102,6 +102,7 @@ fn run<'a>(
 }
 
 // Rows 13 and 14, then the steps.
+#[tactic(auto, unfolding(crate::specs::Density::search_of, gerg_search::specs::Run::outcome_of))]
 pub fn search<'a>(
     doubles: &'a [f64; 4086],
     integers: &'a [u8; 1631],

@@ -20,6 +20,7 @@ pub fn begin(o: Options) -> Search
 }
 
 // Collapsed is looked at before the limit.
+#[tactic(auto, unfolding(crate::specs::Steps::go_on_of))]
 fn go_on(limit: usize, trials: usize, b: Bracket, x: f64) -> Step
     ensures { result ≡ go_on_of limit trials b x }
 {

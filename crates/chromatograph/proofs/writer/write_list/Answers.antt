@@ -25,7 +25,7 @@ returns-then-unlike c =
 pub returns-then-other_total : goal.returns-then-other_total
 unfolding bad_place
 returns-then-other_total c =
-    let r : laws.Written c.args.list.now c.args.parts.now c.args.out.now (Refused 29 0) c.args.out.now = laws.number_29 c.args.list.now c.args.parts.now c.args.out.now _ c.first_bad_number-place.ensures c.if-bad.false (ap not (eq-eqb _ _ c.if-unlike.false)) _ c.bad_total-other_total.ensures c.if-other_total.true in
+    let r : laws.Written c.args.list.now c.args.parts.now c.args.out.now (Refused 29 0) c.args.out.now = laws.number_29 c.args.list.now c.args.parts.now c.args.out.now _ c.first_bad_number-place.ensures c.if-bad.false (ap not (eq-eqb (length c.args.parts.now) (length c.args.list.now) (omega arith))) _ c.bad_total-other_total.ensures c.if-other_total.true in
     record { answer = r.0; memory = r.1 }
 
 pub overflow_mul-n : goal.overflow_mul-n

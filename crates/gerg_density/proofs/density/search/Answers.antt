@@ -1,21 +1,10 @@
 -- `search` meets its contract: each way rewrites the tests that led there. Assumes nothing.
-use mathlib.Core.Path.{◌≡◌, ◌∙◌, sym}
-use mathlib.Core.Bool.{true}
+use mathlib.Core.Path.{◌∙◌, sym}
 use Rattle.numerics.specs.Tests.{holds}
 use Rattle.gerg_density.specs.Density.{search_of}
 use Rattle.gerg_density.specs.Running.{run_of}
 use Rattle.gerg_search.specs.Run.{outcome_of}
 use Rattle.gerg_density.proofs.density.search.Goals as goal
-
-pub returns-then-options_refused : goal.returns-then-options_refused
-unfolding search_of outcome_of
-returns-then-options_refused c =
-    let refused : c.options_refused-options_refused.result ≡ true = c.if-options_refused.true in
-    rw (← c.options_refused-options_refused.ensures, refused)
-
-pub returns-then-target_refused : goal.returns-then-target_refused
-unfolding search_of outcome_of
-returns-then-target_refused c = rw (← c.options_refused-options_refused.ensures, c.if-options_refused.false, ← c.target_refused-target_refused.ensures, c.if-target_refused.true)
 
 pub run-requires : goal.run-requires
 run-requires c =
