@@ -134,7 +134,10 @@ def main():
         old = {word: snake(word) for word in TOKEN.findall(read(path)) if word not in new and snake(word) in made}
         count += changed(path, "\n".join(respelled(line, new | old) if line.startswith(("old:", "new:")) else line for line in read(path).split("\n")))
     for path in glob.glob(f"{root}/*.md") + glob.glob(f"{root}/docs/**/*.md", recursive=True) + glob.glob(f"{root}/crates/*/README.md"):
-        old = {word: snake(word) for word in TOKEN.findall(read(path)) if word not in new and snake(word) in made}
+        if os.path.basename(path) == "PORT.md":  # it has both spellings
+            continue
+        named = {word for quoted in re.findall(r"`[^`\n]*`", read(path)) for word in TOKEN.findall(quoted[1:-1])}
+        old = {word: snake(word) for word in named if word not in new and snake(word) in made}
         count += changed(path, page_respelled(read(path), new | old))
     print(f"{len(new)} names, {count} files")
 
