@@ -29,9 +29,7 @@ static int lists_lent_from(int byte, int part)
 
 static void refuses(const char *name, uint64_t answer, uint32_t number, uint32_t value)
 {
-    char full[128];
-    snprintf(full, sizeof full, "%s: leaves the lists", name);
-    expect(full, lists_lent_from(0, 0));
+    expect(name, lists_lent_from(0, 0));
     refused(name, answer, number, value);
     lend_lists();
 }

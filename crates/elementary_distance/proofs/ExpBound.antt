@@ -141,7 +141,7 @@ module _ (x : Float) (range : InRange x) where
   unfolding earlier_within_of
   answer_near = rw (within_kept x range, remainder_is x range) (answer_rel r t (reduced_rel x range).pos (omega (arith, r_hi x range)) (omega (arith, r_lo x range)) (u % 64) entry (u / 64) fewer.0 fewer.1)
 
-  -- the answer is product / 2 ^ zeroPower
+  -- the answer is product / 2 ^ zero_power
   pub answer_close : Close 15 (val (within_of x)) (over product two_at_zero (pow_pos zero_power))
   answer_close =
       close_trans 15 0 (val (within_of x)) (val t ⊠ S 6 (val r) ⊠ scale (u / 64)) (over product two_at_zero (pow_pos zero_power)) answer_near.near

@@ -1,5 +1,5 @@
--- How far the remainder of the exponential's reduction is off: x and (u - zeroSteps) * L + r differ by at most 4 / (2 ^ 53 - 1), where L = hi + lo exactly, near ln 2 / 64.
--- Each side is written with sums alone: the part of x, and of u - zeroSteps, that is below zero stands on the other side. Assumes nothing.
+-- How far the remainder of the exponential's reduction is off: x and (u - zero_steps) * L + r differ by at most 4 / (2 ^ 53 - 1), where L = hi + lo exactly, near ln 2 / 64.
+-- Each side is written with sums alone: the part of x, and of u - zero_steps, that is below zero stands on the other side. Assumes nothing.
 use mathlib.Core.Path.{◌≡◌, sym, ap}
 use Prim.Native.Nat.{ℕ, ◌+◌, ◌-◌, ◌*◌, ◌^◌, ◌≤◌, ◌<◌}
 use native.Mathlib.Nat.{le_trans, le_of_eq, le_of_lt, mul-pos, mul-one, mul-le-mul_right}

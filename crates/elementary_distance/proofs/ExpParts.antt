@@ -1,4 +1,4 @@
--- The two products of the exponential's reduction: with m = u - zeroSteps exactly, m * hi is exact, and m * lo is rounded once. Assumes nothing.
+-- The two products of the exponential's reduction: with m = u - zero_steps exactly, m * hi is exact, and m * lo is rounded once. Assumes nothing.
 use mathlib.Core.Path.{◌≡◌, refl, sym, ap, ◌∙◌, subst}
 use mathlib.Core.Logic.{◌⊎◌, inl, inr}
 use Prim.Native.Nat.{ℕ, zero, suc, ◌+◌, ◌-◌, ◌*◌, ◌^◌, ◌≤◌, ◌<◌}
@@ -20,7 +20,7 @@ use Rattle.numerics.specs.Exactly.{Differs, sub_whole, mul_whole}
 use Rattle.elementary_exp.proofs.ExpSteps.{crude}
 use Rattle.elementary_exp.proofs.ExpConstants.{far_steps, fewest_steps, hi, high_top, lo, low_top, most_steps, start, zero_steps}
 
--- ---- u - zeroSteps
+-- ---- u - zero_steps
 pub record Counted (u : ℕ) (m : Float) : Type 0 where
   pub s : Bool
   pub k : ℕ

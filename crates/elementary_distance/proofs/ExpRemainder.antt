@@ -1,4 +1,4 @@
--- The remainder of the exponential's reduction: with m = u - zeroSteps exactly, m * hi exactly, and m * lo rounded, v = x - m * hi and r = v - m * lo are each one rounding of a
+-- The remainder of the exponential's reduction: with m = u - zero_steps exactly, m * hi exactly, and m * lo rounded, v = x - m * hi and r = v - m * lo are each one rounding of a
 -- difference that lies between 0.00199 and 0.01401. So r is above zero and never tiny, whatever the signs of x and m. Assumes nothing.
 use mathlib.Core.Path.{◌≡◌, ap, ap₂, ◌∙◌}
 use Prim.Native.Nat.{ℕ, ◌+◌, ◌-◌, ◌*◌, ◌^◌, ◌≤◌, ◌<◌}

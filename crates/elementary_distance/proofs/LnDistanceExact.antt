@@ -1,4 +1,4 @@
--- x = m 2^i / 2^j with m = 1 + t / 2^52, against the exact sum i ln2 + log-of t - j ln2: what is at most that sum has an exponential at most x, and what is at least it one at
+-- x = m 2^i / 2^j with m = 1 + t / 2^52, against the exact sum i ln2 + log_of t - j ln2: what is at most that sum has an exponential at most x, and what is at least it one at
 -- least x, up to a tiny `slack` in the exponent. Exponents of either sign are differences u - v (`Le u q v` is e^u ≤ q e^v), so no case is made of signs. Assumes nothing.
 use mathlib.Core.Path.{◌≡◌}
 use Prim.Native.Nat.{ℕ, ◌+◌, ◌*◌, ◌^◌, ◌≤◌, ◌<◌}

@@ -1,5 +1,5 @@
 -- The numbers of the exponential's reduction, over one denominator Q: x = (Xp - Xn) / Q, q = x * 64 / ln 2 = (Up - Un) / Q and z = q + 131071.25 = Z / Q, each
--- rounded once, and u = K / Q the whole number nearest z; u - zeroSteps = (Kp - Kn) / Q. Then x less that times 0.0108304246959.. lies between 0.002 and 0.014.
+-- rounded once, and u = K / Q the whole number nearest z; u - zero_steps = (Kp - Kn) / Q. Then x less that times 0.0108304246959.. lies between 0.002 and 0.014.
 -- Nothing here is about floats. Assumes nothing.
 use Rattle.std.proofs.Common.{◌≡◌, ℕ, ◌+◌, ◌*◌, ◌<◌, ◌≤◌, mul-le-mul_right, mul-le-mul_left, le_of_mul-le-mul_right, arith}
 use Rattle.elementary_exp.proofs.ExpConstants.{fewest_steps, most_steps, per_unit_high, per_unit_low, remainder_least, remainder_most, shift_top, slope_high, slope_low, slope_most, start_low, start_most, step_least, step_most, zero_steps}

@@ -1,5 +1,5 @@
 -- The count of steps in the exponential's reduction, for a double x from -700 to 700 and not smaller than 2 ^ -54: w = 2 ^ 52 + u is the sum of
--- x * 64 / ln 2 + 131071.25 and 2 ^ 52, each operation rounded. So u is a whole number from `fewest_steps` to `most_steps`, and x less (u - zeroSteps) * ln 2 / 64 lies between 0.002 and 0.014. Assumes nothing.
+-- x * 64 / ln 2 + 131071.25 and 2 ^ 52, each operation rounded. So u is a whole number from `fewest_steps` to `most_steps`, and x less (u - zero_steps) * ln 2 / 64 lies between 0.002 and 0.014. Assumes nothing.
 use Rattle.std.proofs.Common.{◌≡◌, ℕ, ◌+◌, ◌-◌, ◌*◌, ◌%◌, ◌^◌, ◌<◌, ◌≤◌, true, false, not, T, ℤ, sym, ap, subst, ap₂, zero-le, le_trans, le_of_eq, le_refl, lt_of_lt_of_le, mul-le-mul_right, mul_assoc, mul-le-mul_left, mul-pos, le_of_mul-le-mul_right, arith, lit≤, lt→ltb}
 use lib.Ieee.{Float, nan, inf, fin, binary64, up, down, add, mul, neg, to_bits, is_nan}
 use lib.Ieee.Fits.{down_pos}

@@ -1,14 +1,14 @@
 -- Ways to show `Within` and `LnWithin`, from bounds of the convenient forms.
 --   within_of         from AtMost x h and AtLeast x l, for x of either sign, where (1 - ε) h ≤ r ≤ (1 + ε) l
---   within-nonneg     the same from Above a h and Below a l, x = a
---   within-neg        from Above a h and Below a l, x = -a, where r h ≤ 1 + ε and 1 - ε ≤ r l
---   within-factor-of  from AtMost x (r c) and AtLeast x (r / c), for x of either sign, where c ≤ 1 + ε
---   within-factor     from Above a (r c) and Below a (r / c), x = a, where c ≤ 1 + ε
---   within-factor-neg from Above a (w c) and Below a (w / c), x = -a and r = 1 / w, where c ≤ 1 + ε
---   most-quotient, least-quotient   bounds of e ^ s and of e ^ c as AtMost and AtLeast of x = s - c
---   most-of-LE, least-of-LE    e ^ u ≤ h e ^ v and e ^ v ≤ h e ^ u (`Le` of module Exp) as AtMost and AtLeast of u - v
---   ln-within-of      from Le y x δ and Below (y + δ) x: y is within δ of ln x
---   ln-within-neg     from Le y (1 / x) δ and Below (y + δ) (1 / x): -y is within δ of ln x
+--   within_nonneg     the same from Above a h and Below a l, x = a
+--   within_neg        from Above a h and Below a l, x = -a, where r h ≤ 1 + ε and 1 - ε ≤ r l
+--   within_factor_of  from AtMost x (r c) and AtLeast x (r / c), for x of either sign, where c ≤ 1 + ε
+--   within_factor     from Above a (r c) and Below a (r / c), x = a, where c ≤ 1 + ε
+--   within_factor_neg from Above a (w c) and Below a (w / c), x = -a and r = 1 / w, where c ≤ 1 + ε
+--   most_quotient, least_quotient   bounds of e ^ s and of e ^ c as AtMost and AtLeast of x = s - c
+--   most_of_LE, least_of_LE    e ^ u ≤ h e ^ v and e ^ v ≤ h e ^ u (`Le` of module Exp) as AtMost and AtLeast of u - v
+--   ln_within_of      from Le y x δ and Below (y + δ) x: y is within δ of ln x
+--   ln_within_neg     from Le y (1 / x) δ and Below (y + δ) (1 / x): -y is within δ of ln x
 -- Assumes nothing.
 use Rattle.std.specs.Prelude.{◌≡◌, ℕ, ◌+◌, ◌*◌, ◌≤◌, ◌<◌}
 use Rattle.std.proofs.Common.{ap, ◌∙◌}

@@ -1,8 +1,8 @@
 -- The convenient forms are the series with its tail's bound, at either sign. For a ≥ 0, `Below a q` (q is at most a partial sum) and `Above a q` (q is at least each of them):
---   below-nonneg   q lies below e ^ a just where Below a q
---   above-nonneg   each q' over q lies above e ^ a just where Above a q
---   above-neg      q lies above e ^ -a just where Below a (1 / q)
---   below-neg      each q' under q lies below e ^ -a just where Above a (1 / q)
+--   below_nonneg   q lies below e ^ a just where Below a q
+--   above_nonneg   each q' over q lies above e ^ a just where Above a q
+--   above_neg      q lies above e ^ -a just where Below a (1 / q)
+--   below_neg      each q' under q lies below e ^ -a just where Above a (1 / q)
 -- The second and the fourth speak of q' because `Above` allows q = e ^ a, which a strict bound does not reach. Assumes nothing.
 use Rattle.std.specs.Prelude.{◌≡◌, ◌↔◌, ◌⊎◌}
 use Rattle.std.proofs.Common.{sym, subst, inl, inr}

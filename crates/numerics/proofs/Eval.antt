@@ -39,7 +39,7 @@ ln2_low = record { top = 899756482030919243385101862961404; bot = 2 ^ 110; good 
 abbrev pub ln2_high : Frac
 ln2_high = record { top = 899756482030919243385101862961405; bot = 2 ^ 110; good = pow_pos 110 }
 
--- e ^ ln2-low ≤ 2 ≤ e ^ ln2-high
+-- e ^ ln2_low ≤ 2 ≤ e ^ ln2_high
 pub ln2_low_above : Above ln2_low (nat 2)
 unfolding sum_top sum_bot
 ln2_low_above = above_by 32 ln2_low (nat 2) (lit≤ tt) (lit≤ tt)
@@ -54,7 +54,7 @@ ln2_within =
     ln_within d (nat 2) (plus_of ln2_low) (most_arg (lowered (plus_of ln2_low) d) (plus_of ln2_low) (nat 2) (lit≤ tt) (most_plus ln2_low (nat 2) ln2_low_above))
     (least_arg (plus_of ln2_high) (raised (plus_of ln2_low) d) (nat 2) (lit≤ tt) (least_plus ln2_high (nat 2) ln2_high_below))
 
--- e ^ ln2-low is 2 to 110 binary places, from above and from below
+-- e ^ ln2_low is 2 to 110 binary places, from above and from below
 pub e_ln2_low : Below ln2_low (record { top = 2 ^ 111 - 2; bot = 2 ^ 110; good = pow_pos 110 }) × Above ln2_low (record { top = 2 ^ 111 - 1; bot = 2 ^ 110; good = pow_pos 110 })
 unfolding sum_top sum_bot
 e_ln2_low = (below_by 32 ln2_low (record { top = 2 ^ 111 - 2; bot = 2 ^ 110; good = pow_pos 110 }) (lit≤ tt), above_by 32 ln2_low (record { top = 2 ^ 111 - 1; bot = 2 ^ 110; good = pow_pos 110 }) (lit≤ tt) (lit≤ tt))

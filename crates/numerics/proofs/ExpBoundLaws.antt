@@ -1,10 +1,10 @@
 -- Laws of `AtMost` and `AtLeast`, for x of either sign, and what of the exponential's laws needs no more.
---   above-of-most, below-of-least   what is more than an `AtMost` lies above e ^ x, what is less than an `AtLeast` lies below: with at_most and at_least of `ExpBounds`, the forms are equal
+--   above_of_most, below_of_least   what is more than an `AtMost` lies above e ^ x, what is less than an `AtLeast` lies below: with at_most and at_least of `ExpBounds`, the forms are equal
 --   squeeze                         the two kinds of bound come arbitrarily close
---   exp-zero                        1 lies above and below e ^ 0
---   most-arg, least-arg             monotony
---   most-sum, least-sum             bounds of e ^ x and of e ^ y multiply to bounds of e ^ (x + y)
---   most-times, least-times         and to bounds of e ^ (n x)
+--   exp_zero                        1 lies above and below e ^ 0
+--   most_arg, least_arg             monotony
+--   most_sum, least_sum             bounds of e ^ x and of e ^ y multiply to bounds of e ^ (x + y)
+--   most_times, least_times         and to bounds of e ^ (n x)
 -- Assumes nothing.
 use Rattle.std.specs.Prelude.{◌≡◌, ◌⊎◌, ℕ, suc, ◌+◌, ◌-◌, ◌*◌, ◌≤◌, ◌<◌, Bool, true, false, not, T, leb}
 use Rattle.std.proofs.Common.{sym, ap, inl, inr, le_trans, le_of_eq, le_of_lt, mul-pos, mul-le-mul_right, mul-le-mul_left, le_of_mul-le-mul_right, add-sub_of_le, eq-zero-or-pos, arith, leb→le}
@@ -15,7 +15,7 @@ use Rattle.numerics.specs.Limit.{far_first, tail_small}
 use Rattle.numerics.specs.Exponential.{Signed, size, sums, gain, loss, tail, Enough, AboveExp, BelowExp}
 use Rattle.numerics.proofs.ExpBounds.{negatives, AtMost, AtLeast, at_most, at_least, least_most}
 
--- ---- the sum, what it loses and the tail over the one denominator sumBot (suc n)
+-- ---- the sum, what it loses and the tail over the one denominator sum_bot (suc n)
 abbrev pub G : ℕ → Signed → ℕ
 G n x = (sums n x.plus x.minus x.bot).0 * (x.bot * suc n)
 

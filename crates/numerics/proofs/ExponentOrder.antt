@@ -1,10 +1,10 @@
 -- Order among exponents of either sign.
---   ≼_trans, raised-mono   laws of the order
+--   ≼_trans, raised_mono   laws of the order
 --   Equal                  the order both ways: exponents of one value (`equal_of`, `equal_scaled`, `raised_is`)
---   exp-enclosed           bounds of e ^ l within a factor 1 + g of each other, for each g > 0
---   exp-one-more           1 + g ≤ e ^ g
---   exp-below-raised       p ≤ e ^ l gives p (1 + g) ≤ e ^ (l + g)
---   exp-order              k ≤ l where nothing below e ^ k exceeds anything above e ^ l
+--   exp_enclosed           bounds of e ^ l within a factor 1 + g of each other, for each g > 0
+--   exp_one_more           1 + g ≤ e ^ g
+--   exp_below_raised       p ≤ e ^ l gives p (1 + g) ≤ e ^ (l + g)
+--   exp_order              k ≤ l where nothing below e ^ k exceeds anything above e ^ l
 -- Assumes nothing.
 use Rattle.std.specs.Prelude.{◌≡◌, ℕ, ◌+◌, ◌-◌, ◌*◌, ◌≤◌, ◌<◌}
 use Rattle.std.proofs.Common.{sym, subst, le_refl, le_trans, le_of_eq, le_of_lt, mul-pos, mul-le-mul_right, mul-le-mul_left, le_of_mul-le-mul_right, lt_of_mul-lt-mul_right, add-sub_of_le, pow-suc, arith}

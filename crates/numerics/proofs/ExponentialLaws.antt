@@ -1,10 +1,10 @@
 -- Laws of `AboveExp` and `BelowExp` themselves, for x and y of either sign:
---   below-above-exp (ExpBounds), squeeze, exp-zero (ExpBoundLaws)   nothing below exceeds anything above; the two come arbitrarily close; e ^ 0 = 1
---   exp-above-pos                    what lies above e ^ x is not 0
---   exp-above-more, exp-below-less   a bound may be loosened
---   exp-above-sum, exp-below-sum     bounds of e ^ x and e ^ y multiply to bounds of e ^ (x + y)
---   exp-above-arg, exp-below-arg     monotony
---   exp-above-times, exp-below-times   powers of a bound are bounds of e ^ (n x)
+--   below_above_exp (ExpBounds), squeeze, exp_zero (ExpBoundLaws)   nothing below exceeds anything above; the two come arbitrarily close; e ^ 0 = 1
+--   exp_above_pos                    what lies above e ^ x is not 0
+--   exp_above_more, exp_below_less   a bound may be loosened
+--   exp_above_sum, exp_below_sum     bounds of e ^ x and e ^ y multiply to bounds of e ^ (x + y)
+--   exp_above_arg, exp_below_arg     monotony
+--   exp_above_times, exp_below_times   powers of a bound are bounds of e ^ (n x)
 -- They rest on this: where x is not 0 there is a smaller q below each q above e ^ x (`room_above`), and a larger above each q below it (`room_below`), since with two terms more the sum
 -- with the tail's bound falls and the sum less it grows. Assumes nothing.
 use Rattle.std.specs.Prelude.{◌≡◌, ◌⊎◌, ℕ, zero, suc, ◌+◌, ◌-◌, ◌*◌, ◌≤◌, ◌<◌}

@@ -1,10 +1,10 @@
 -- Bounds of ln x: `AboveLn x l` (l is at least ln x) and `BelowLn x k` (k is at most).
---   above-ln-up            a bound may be loosened
---   ln-order               what is at most ln x is at most what is at least ln x
---   ln-either              l is at most ln x, or l + g is at least
---   ln-bounds              there are a k at most and an l at least ln x with l - k = 2 g, for each g > 0: ln x is enclosed as closely as one likes
+--   above_ln_up            a bound may be loosened
+--   ln_order               what is at most ln x is at most what is at least ln x
+--   ln_either              l is at most ln x, or l + g is at least
+--   ln_bounds              there are a k at most and an l at least ln x with l - k = 2 g, for each g > 0: ln x is enclosed as closely as one likes
 --   lesser, greater        of two bounds the nearer one
---   ln-least, ln-most      x ≤ e ^ l and e ^ k ≤ x, in the form of `ExpBounds`
+--   ln_least, ln_most      x ≤ e ^ l and e ^ k ≤ x, in the form of `ExpBounds`
 -- Assumes nothing.
 use Rattle.std.specs.Prelude.{◌≡◌, ◌⊎◌, ℕ, zero, suc, ◌+◌, ◌*◌, ◌≤◌, ◌<◌}
 use Rattle.std.proofs.Common.{sym, subst, inl, inr, le_refl, le_trans, le_of_lt, mul-pos, mul-le-mul_right, mul-le-mul_left, le_of_mul-le-mul_right, zero-add, add-zero, pow-suc, zero-lt-suc, arith}

@@ -1,9 +1,9 @@
 -- Ways to show that r is within ε × max(1, |ln x|) of ln x (`LnNear`).
---   ln-near-of           r = y ≥ 0, from Le y x d, Below (y + d) x and d ≤ ε c, where c ≤ 1 or Above c x
---   ln-near-of-inv       r = -y, from the same of 1 / x
---   ln-weaken, ln-near-weaken   a wider distance
---   ln-near-plus         r = y ≥ 0, known to be within d ≤ δ × max(1, y), where δ (1 + ε) ≤ ε
---   ln-near-minus        the same for r = -y
+--   ln_near_of           r = y ≥ 0, from Le y x d, Below (y + d) x and d ≤ ε c, where c ≤ 1 or Above c x
+--   ln_near_of_inv       r = -y, from the same of 1 / x
+--   ln_weaken, ln_near_weaken   a wider distance
+--   ln_near_plus         r = y ≥ 0, known to be within d ≤ δ × max(1, y), where δ (1 + ε) ≤ ε
+--   ln_near_minus        the same for r = -y
 -- Assumes nothing.
 use Rattle.std.specs.Prelude.{◌≡◌, ◌⊎◌, ℕ, ◌+◌, ◌-◌, ◌*◌, ◌≤◌, ◌<◌, max}
 use Rattle.std.proofs.Common.{ap, inl, inr, mul-le-mul_right, le_of_mul-le-mul_right, add-sub_of_le, eq-zero-or-pos, arith}

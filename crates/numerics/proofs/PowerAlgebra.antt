@@ -1,8 +1,8 @@
 -- The exact power with neither exponential nor logarithm: for t = (P - M) / B, x ^ P against q ^ B x ^ M (`Algebraic`).
---   power-algebraic           every t
---   power-plus, power-minus   t = a / b and -a / b: x ^ a against q ^ b, and 1 against q ^ b x ^ a
---   power-one, power-two, power-half, power-minus-one   x ^ 1 = x, x ^ 2 = x x, x ^ (1 / 2) squared is x, x ^ -1 is 1 / x
---   within-algebraic          what `PowerWithin` says in these terms
+--   power_algebraic           every t
+--   power_plus, power_minus   t = a / b and -a / b: x ^ a against q ^ b, and 1 against q ^ b x ^ a
+--   power_one, power_two, power_half, power_minus_one   x ^ 1 = x, x ^ 2 = x x, x ^ (1 / 2) squared is x, x ^ -1 is 1 / x
+--   within_algebraic          what `PowerWithin` says in these terms
 -- Assumes nothing.
 use Rattle.std.specs.Prelude.{◌<◌}
 use native.Mathlib.Omega.{arith}

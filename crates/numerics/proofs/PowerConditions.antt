@@ -1,7 +1,7 @@
 -- |t ln x| ≤ b (`ProductWithin`): what it says, and ways to show it.
---   product-within-power   it holds just where e ^ -b ≤ x ^ t ≤ e ^ b, for t ≥ 0 with nothing taken off and for t ≤ 0 with nothing added, as every double is
---   product-within-of      from |ln x| ≤ c and |t| c ≤ b
---   product-within-by      from 1 / h ≤ x ≤ h, h below e ^ c, and |t| c ≤ b
+--   product_within_power   it holds just where e ^ -b ≤ x ^ t ≤ e ^ b, for t ≥ 0 with nothing taken off and for t ≤ 0 with nothing added, as every double is
+--   product_within_of      from |ln x| ≤ c and |t| c ≤ b
+--   product_within_by      from 1 / h ≤ x ≤ h, h below e ^ c, and |t| c ≤ b
 -- Assumes nothing.
 use Rattle.std.specs.Prelude.{◌≡◌, ◌↔◌, ◌⊎◌, ℕ, ◌+◌, ◌-◌, ◌*◌, ◌≤◌, ◌<◌}
 use Rattle.std.proofs.Common.{sym, ap, subst, inl, inr, le_of_lt, mul-pos, mul-le-mul_right, mul-le-mul_left, le_of_mul-le-mul_right, add-sub_of_le, arith}

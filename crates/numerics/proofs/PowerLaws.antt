@@ -1,11 +1,11 @@
 -- What the exact power means. t = (P - M) / B is of either sign, and x is above zero.
---   power-order                          nothing below x ^ t exceeds anything above it
---   power-bounds                         there are bounds within a factor (1 + s) (1 + s + s ^ 2) of each other, for each s > 0 up to 1 / 2
---   power-above-more, power-below-less   a bound may be loosened
---   power-above-sum, power-below-sum     bounds of x ^ s and x ^ t multiply to bounds of x ^ (s + t)
---   power-above, power_below             q above x ^ t gives x ^ P ≤ q ^ B x ^ M, q below gives q ^ B x ^ M ≤ x ^ P
---   power-above-back, power-below-back   and back, from the strict order
---   power-none                           x ^ 0 = 1
+--   power_order                          nothing below x ^ t exceeds anything above it
+--   power_bounds                         there are bounds within a factor (1 + s) (1 + s + s ^ 2) of each other, for each s > 0 up to 1 / 2
+--   power_above_more, power_below_less   a bound may be loosened
+--   power_above_sum, power_below_sum     bounds of x ^ s and x ^ t multiply to bounds of x ^ (s + t)
+--   power_above, power_below             q above x ^ t gives x ^ P ≤ q ^ B x ^ M, q below gives q ^ B x ^ M ≤ x ^ P
+--   power_above_back, power_below_back   and back, from the strict order
+--   power_none                           x ^ 0 = 1
 -- A double t is such a fraction, with a power of two as B. `PowerAlgebra` has these at t = 1, 2, 1 / 2, -1. Assumes nothing.
 use Rattle.std.specs.Prelude.{ℕ, ◌*◌, ◌≤◌, ◌<◌}
 use Rattle.std.proofs.Common.{le_refl, le_of_lt, arith}

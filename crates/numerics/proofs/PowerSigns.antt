@@ -1,7 +1,7 @@
 -- The exact power by the sign of t, and by the value of t alone.
---   above-nonneg, below-nonneg   for t ≥ 0, q lies above x ^ t just where it lies above e ^ (t l) for an l that is at least ln x; below for one that is at most
---   above-nonpos, below-nonpos   for t ≤ 0 with the two changed over
---   power-value                  where t = t' in value, nothing below x ^ t exceeds anything above x ^ t'
+--   above_nonneg, below_nonneg   for t ≥ 0, q lies above x ^ t just where it lies above e ^ (t l) for an l that is at least ln x; below for one that is at most
+--   above_nonpos, below_nonpos   for t ≤ 0 with the two changed over
+--   power_value                  where t = t' in value, nothing below x ^ t exceeds anything above x ^ t'
 -- Assumes nothing.
 use Rattle.std.specs.Prelude.{◌≡◌, ◌↔◌, ℕ, ◌+◌, ◌*◌, ◌≤◌, ◌<◌}
 use Rattle.std.proofs.Common.{ap, le_refl, arith}

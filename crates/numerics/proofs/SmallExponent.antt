@@ -1,6 +1,6 @@
 -- Bounds of e ^ s and e ^ -s for a small s, and what such factors leave room for.
---   exp-upper-above, exp-lower-below   e ^ s ≤ 1 + s + s ^ 2 and 1 - s - s ^ 2 ≤ e ^ -s, for s ≤ 1 / 2
---   power-exp-upper                    (1 + s / n) ^ n ≤ 1 + s + s ^ 2
+--   exp_upper_above, exp_lower_below   e ^ s ≤ 1 + s + s ^ 2 and 1 - s - s ^ 2 ≤ e ^ -s, for s ≤ 1 / 2
+--   power_exp_upper                    (1 + s / n) ^ n ≤ 1 + s + s ^ 2
 --   room_for                           between u < v there is room for the square of such a factor
 -- Assumes nothing.
 use Rattle.std.specs.Prelude.{◌≡◌, ℕ, zero, suc, ◌+◌, ◌-◌, ◌*◌, ◌^◌, ◌≤◌, ◌<◌}

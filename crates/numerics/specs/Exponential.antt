@@ -45,7 +45,7 @@ unfolding sum_bot
 sum_bot_pos zero b B = le_refl 1
 sum_bot_pos (suc n) b B = mul-pos (sum_bot_pos n b B) (mul-pos B (zero-lt-suc n))
 
--- 1 + x + x ^ 2 / 2! + .. + x ^ n / n! for x = (p - m) / b, as a difference over sumBot n b
+-- 1 + x + x ^ 2 / 2! + .. + x ^ n / n! for x = (p - m) / b, as a difference over sum_bot n b
 unfoldable pub sums : ℕ → ℕ → ℕ → ℕ → ℕ × ℕ
 sums zero p m b = (1, 0)
 sums (suc n) p m b = ((sums n p m b).0 * (b * suc n) + (powers (suc n) p m).0, (sums n p m b).1 * (b * suc n) + (powers (suc n) p m).1)

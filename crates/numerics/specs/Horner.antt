@@ -46,7 +46,7 @@ taylor_whole k (suc j) x =
     step : (a b t d F s R W : ℕ) → t * (F * s * R) ≡ W * d → (1 * (b * d) + a * t * F) * (F * (b * s * R)) ≡ (b * s * R + a * W) * (F * (b * d))
     step a b t d F s R W h = omega (arith, ap (λ (z : ℕ). z * (a * b * F)) h)
 
--- sumTop split at k
+-- sum_top split at k
 whole_sum : (k j a b : ℕ) → sum_top k a b * rise b (suc j) k + a ^ suc k * whole (suc k) j a b ≡ sum_top (suc k + j) a b
 unfolding whole rise sum_top
 whole_sum k zero a b = rw (native.Mathlib.Nat.add-zero (suc k)) (omega arith)

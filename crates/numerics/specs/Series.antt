@@ -10,7 +10,7 @@ unfoldable pub use Rattle.numerics.specs.Exponential.{sum_bot}
 pub use Rattle.numerics.specs.Exponential.{sum_bot_pos}
 use Rattle.numerics.specs.Frac.{Frac, ◌⊑◌, ⊑_refl, ⊑_trans}
 
--- ---- x = a / b: the sum up to x ^ n / n! is sumTop n a b / sumBot n b, and sumBot n b is b ^ n * n!
+-- ---- x = a / b: the sum up to x ^ n / n! is sum_top n a b / sum_bot n b, and sum_bot n b is b ^ n * n!
 unfoldable pub sum_top : ℕ → ℕ → ℕ → ℕ
 sum_top zero a b = 1
 sum_top (suc n) a b = sum_top n a b * (b * suc n) + a ^ suc n

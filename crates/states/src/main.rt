@@ -3,7 +3,6 @@
 #![tactic(auto)]
 
 mod lines;
-mod reading;
 mod text;
 
 ghost use Rattle.std.specs.Prelude.{◌≤◌};
@@ -20,7 +19,7 @@ fn print(rt: &impl Print, lines: [u8; 1596], length: usize) -> io::Result<()>
 // One byte more than the longest head with the longest file: what lies beyond changes nothing (`Cut.cut_text`), so it is not read.
 fn main(rt: HostRuntime) -> io::Result<()> {
     let mut buffer = [0u8; 30686];
-    let n = reading::read_full(&mut rt.stdin(), &mut buffer)?;
+    let n = input::read_full(&mut rt.stdin(), &mut buffer)?;
     let mut lines = [0u8; 1596];
     let length = text::text(&buffer[..n], &mut lines);
     print(&rt, lines, length)

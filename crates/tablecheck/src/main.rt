@@ -2,7 +2,6 @@
 #![tactic(auto)]
 
 mod line;
-mod reading;
 
 ghost use Rattle.std.specs.Prelude.{◌≤◌};
 
@@ -18,7 +17,7 @@ fn print(rt: &impl Print, text: [u8; 42], length: usize) -> io::Result<()>
 // One byte more than the longest file: what lies beyond changes no answer (`gerg_coefficients: Cut.cut_answer`), so it is not read.
 fn main(rt: HostRuntime) -> io::Result<()> {
     let mut buffer = [0u8; 28378];
-    let n = reading::read_full(&mut rt.stdin(), &mut buffer)?;
+    let n = input::read_full(&mut rt.stdin(), &mut buffer)?;
     let mut text = [0u8; 42];
     let length = line::line(&buffer[..n], &mut text);
     print(&rt, text, length)

@@ -1,4 +1,6 @@
 // Reading into a buffer that may be longer or shorter than the input.
+#![tactic(auto)]
+
 ghost use Rattle.std.specs.Prelude.{IfOk, OnOk, ◌<◌, take, length};
 ghost use Rattle.std.specs.Io.{ReadsAtMost};
 ghost use Rattle.std.specs.Io.KnownBytes.{Consumes, IsAtEnd};
