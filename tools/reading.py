@@ -1,7 +1,7 @@
 #!/usr/bin/env python3
 """What an auditor must believe: the files of definitions that a public contract or a promise reaches. Usage: tools/reading.py [--names | --table | --unnamed]
 
-A contract is a clause of a public function of gerg_calls, gerg_extended, gerg_states, gerg_equilibrium or gerg_api, of a C export or of the programs `tablecheck` and `states`; a promise is a statement of a file named in PROMISES. From their names the search goes on through
+A contract is a clause of a public function of gerg_calls, gerg_states, gerg_equilibrium or gerg_api, of a C export or of the programs `tablecheck` and `states`; a promise is a statement of a file named in PROMISES. From their names the search goes on through
 the signatures and bodies of definitions, and through the declarations of structs and enums in src/. Of a law only its statement counts, and nothing follows a law that stands inside a
 definition: its proof is checked, and what it says is no part of the meaning. Names of the toolchain's own libraries end the search.
 What UNFINISHED names is not promised yet: the search does not begin there, and its definitions in files that are reached are not counted. To --unnamed it is as good as the rest.
@@ -28,7 +28,7 @@ PROMISES = (
 # What a layer promises to those above: named, though no auditor has to read it.
 LAYER = re.compile(r"/proofs/(?:Promises|Laws/(?:Numbers|Answered|Cases)|Bounds)\.antt$")
 # The crates of which every public function is a public call, and the programs whose functions are promised.
-PUBLIC = ("gerg_calls", "gerg_extended", "gerg_states", "gerg_equilibrium", "gerg_api")
+PUBLIC = ("gerg_calls", "gerg_states", "gerg_equilibrium", "gerg_api")
 PROGRAMS = ("tablecheck", "states")
 # Request 05, which has not landed: its promises, its exports, and what it declares in files of others.
 UNFINISHED = (
@@ -38,7 +38,7 @@ UNFINISHED = (
     "crates/gerg_api/proofs/Promises/Lists.antt",
     "crates/gerg_api/src/lists.rt",
 )
-UNCOUNTED = re.compile(r"^(?:unfoldable |abbrev )*pub (?:list_reported|list_code|PassesRows3And4) :", re.M)
+UNCOUNTED = re.compile(r"^(?:unfoldable |abbrev )*pub PassesRows3And4 :", re.M)
 TOKEN = re.compile(r"«[^»]*»|[^\s(){}.;,@\"«»⟦⟧]+")
 # What `rt` reads of the proof of one function: no promise.
 ANSWERS = re.compile(r"proofs\.(?:.*\.)?(?:Proof|Answers|Invariants)$")
@@ -131,6 +131,8 @@ class Source:
         self.contracts = []
         for m in re.finditer(r"^( *)(pub )?(extern \"C\" )?fn (\w+)[^{]*?\)(?: -> [^{]*?)?\n((?:\1    (?:requires|ensures).*\n(?:\1        .*\n|\1    \}\n)*)*)", plain, re.M):
             self.contracts.append((m[4], bool(m[2]), bool(m[3]), m[5]))
+        # what an impl states of a value, as what it is printed as
+        self.contracts += [(m[1], True, False, m[2]) for m in re.finditer(r"^    ghost (\w+) = \{(.*?)\};$", plain, re.M | re.S)]
         # the crate that each type of another one is taken from
         self.taken = {word: m[1] for m in re.finditer(r"^use (\w+)::((?:[^;])+);", plain, re.M) for word in re.findall(r"\w+", m[2])}
 

@@ -3,10 +3,3 @@
 
 pub mod reader;
 pub mod writer;
-
-// How many records were read, or bytes written; or a refusal's number and value.
-#[derive(Clone, Copy)]
-pub enum ListAnswer {
-    Listed(usize),
-    Refused { number: u8, value: usize },
-}

@@ -1,45 +1,26 @@
--- The lines of counts, stored one after the other.
-use mathlib.Core.Path.{◌≡◌, refl, ap, ◌∙◌}
-use mathlib.Core.List.{List, []}
-use Prim.Native.Nat.{ℕ, suc, ◌+◌, ◌-◌, ◌≤◌}
-use native.Mathlib.Omega.{arith}
+-- The lines of counts, one number after the other.
+use Rattle.std.proofs.Common.{◌≡◌, ◌≢◌, sym, ap, ◌∙◌, arith, ℕ, suc, ◌+◌, ◌-◌, ◌≤◌, [], ◌++◌}
+use mathlib.Core.List.{append-nil}
 use borrow.Author.Tests.{eq-eqb, ne_eqb}
-use lib.ListN.{length, length-append}
-use lib.Seq.{sets}
-use Rattle.numerics.specs.Fill.{sets_append}
 use Rattle.decimal_lines.specs.Line.{line_from, count_line, count_lines}
 
--- ---- one number
-pub count_none : (number count : ℕ) → count ≡ 0 → count_line number count ≡ []
+next_line : (counts : ℕ → ℕ) (number : ℕ) → 1 ≤ number → count_lines counts (number - 1) ++ count_line number (counts number) ≡ count_lines counts (number + 1 - 1)
+unfolding count_lines
+next_line counts number h =
+    let p : suc (number - 1) ≡ number = omega arith in
+    let q : number + 1 - 1 ≡ suc (number - 1) = omega arith in
+    ap (λ k. count_lines counts (number - 1) ++ count_line k (counts k)) (sym p) ∙ ap (count_lines counts) (sym q)
+
+-- a number with a count, and one with none
+pub line_on : (counts : ℕ → ℕ) (number : ℕ) → 1 ≤ number → counts number ≢ 0
+    → count_lines counts (number - 1) ++ line_from number (counts number) ≡ count_lines counts (number + 1 - 1)
 unfolding count_line
-count_none number count e = rw (eq-eqb count 0 e)
+line_on counts number h n =
+    let e : count_line number (counts number) ≡ line_from number (counts number) = rw (ne_eqb (counts number) 0 n) in
+    ap (λ l. count_lines counts (number - 1) ++ l) (sym e) ∙ next_line counts number h
 
-pub count_some : (number count : ℕ) → (count ≡ 0 → ⊥) → count_line number count ≡ line_from number count
+pub no_line_on : (counts : ℕ → ℕ) (number : ℕ) → 1 ≤ number → counts number ≡ 0 → count_lines counts (number - 1) ≡ count_lines counts (number + 1 - 1)
 unfolding count_line
-count_some number count h = rw (ne_eqb count 0 h)
-
--- ---- the numbers 1 to n, stored from `at` on
-module _ (counts : ℕ → ℕ) (at : ℕ) (l : List ℕ) where
-  abbrev pub Stored : ℕ → List ℕ → ℕ → Type 0
-  Stored n o next = (o ≡ sets l at (count_lines counts n)) × (next ≡ at + length (count_lines counts n))
-
-  pub none_stored : Stored 0 l at
-  unfolding count_lines
-  none_stored = (refl, omega arith)
-
-  next_stored : (n : ℕ) (o o' : List ℕ) (next next' : ℕ) → Stored n o next → o' ≡ sets o next (count_line (suc n) (counts (suc n)))
-      → next' ≡ next + length (count_line (suc n) (counts (suc n))) → Stored (suc n) o' next'
-  unfolding count_lines
-  next_stored n o o' next next' s e m =
-      let a = count_lines counts n in
-      let b = count_line (suc n) (counts (suc n)) in (
-        e ∙ ap (λ (x : List ℕ). sets x next b) s.0 ∙ ap (λ (k : ℕ). sets (sets l at a) k b) s.1 ∙ sets_append a b l at,
-        omega (arith, s.1, length-append a b),
-      )
-
-  pub line_on : (number : ℕ) (o o' : List ℕ) (next next' : ℕ) → 1 ≤ number → Stored (number - 1) o next → o' ≡ sets o next (count_line number (counts number))
-      → next' ≡ next + length (count_line number (counts number)) → Stored (number + 1 - 1) o' next'
-  line_on number o o' next next' h s e m =
-      let p : suc (number - 1) ≡ number = omega arith in
-      let q : number + 1 - 1 ≡ suc (number - 1) = omega arith in
-      rw q (next_stored (number - 1) o o' next next' s (rw p e) (rw p m))
+no_line_on counts number h e =
+    let n : count_line number (counts number) ≡ [] = rw (eq-eqb (counts number) 0 e) in
+    sym (append-nil (count_lines counts (number - 1))) ∙ ap (λ l. count_lines counts (number - 1) ++ l) (sym n) ∙ next_line counts number h

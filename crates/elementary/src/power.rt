@@ -1,6 +1,6 @@
 // powf and powi.
 
-ghost use Rattle.std.specs.Prelude.{◌≡◌, nat_abs};
+ghost use Rattle.std.specs.Prelude.{◌≡◌};
 ghost use Rattle.std.specs.Float.Ieee.{of_int};
 ghost use Rattle.std.specs.Float.{binary64};
 ghost use Rattle.numerics.specs.Fill.{tabulate};
@@ -46,21 +46,11 @@ fn power(x: f64, n: u32) -> f64
     r
 }
 
-// |n|. -n does not fit at `i32::MIN`, so n + 1 is negated, and the one added back.
-fn magnitude(n: i32) -> u32
-    ensures { result ≡ nat_abs n }
-{
-    if n >= 0 {
-        return n as u32;
-    }
-    (0 - (n + 1)) as u32 + 1
-}
-
 // x to the power n, for every `i32`.
 pub fn powi(x: f64, n: i32) -> f64
     ensures { result ≡ powi_of x n }
 {
-    let r = power(x, magnitude(n));
+    let r = power(x, n.unsigned_abs());
     if n < 0 {
         return 1.0 / r;
     }
@@ -71,10 +61,7 @@ pub fn powi(x: f64, n: i32) -> f64
 pub fn powi_byte(x: f64, b: u8) -> f64
     ensures { result ≡ powi_of x (signed_of b) }
 {
-    if b < 128 {
-        return power(x, b as u32);
-    }
-    1.0 / power(x, 256 - (b as u32))
+    powi(x, i32::from(b.cast_signed()))
 }
 
 // x to the powers 0 to 7, as powi takes them: the squares are shared.
@@ -101,9 +88,5 @@ pub fn powers_below_8(x: f64) -> [f64; 8]
 pub fn signed_double(b: u8) -> f64
     ensures { result ≡ of_int binary64 (signed_of b) }
 {
-    if b < 128 {
-        return b as f64;
-    }
-    let m = 256 - (b as u32);
-    -(m as f64)
+    f64::from(b.cast_signed())
 }

@@ -85,7 +85,7 @@ fn scaled_entry(j: u64, n: u64) -> f64
     requires n_bound { n < 3072 }
     ensures { result ≡ scaled_entry j n }
 {
-    f64::from_bits(std::num::wrapping_add_u64(entry_pattern(j), n << 52))
+    f64::from_bits(entry_pattern(j).wrapping_add(n << 52))
 }
 
 // e ^ r - 1 to degree 6
@@ -112,7 +112,7 @@ fn within(x: f64) -> f64
     ensures { result ≡ within_of x }
 {
     let w = x * 92.33248261689366 + 131071.25 + 4503599627370496.0;
-    let u = f64::to_bits(w) % 0x10_0000_0000_0000;
+    let u = w.to_bits() % 0x10_0000_0000_0000;
     let t = scaled_entry(u % 64, u / 64);
     t + t * polynomial(remainder(x, w))
 }

@@ -176,9 +176,9 @@ fn ln_pattern(b: u64) -> f64
     ensures { result ≡ ln_pattern b }
 {
     if b < 0x10_0000_0000_0000 {
-        let z = u64::leading_zeros(b);
+        let z = b.leading_zeros();
         let n = b << (z - 11);
-        return ln_parts((76 - z) as u64, n - 0x10_0000_0000_0000);
+        return ln_parts(u64::from(76 - z), n - 0x10_0000_0000_0000);
     }
     ln_parts(b / 0x10_0000_0000_0000 + 64, b % 0x10_0000_0000_0000)
 }
@@ -194,7 +194,7 @@ pub fn ln(x: f64) -> f64
         if x == 1.0 / 0.0 {
             return x;
         }
-        return ln_pattern(f64::to_bits(x));
+        return ln_pattern(x.to_bits());
     }
     0.0 / 0.0
 }

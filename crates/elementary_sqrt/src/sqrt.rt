@@ -9,7 +9,7 @@ pub fn sqrt(x: f64) -> f64
     ensures { result ≡ sqrt_of x }
 {
     if (0.0 < x) & (x <= 1.7976931348623157e308) {
-        return f64::from_bits(root_bits(f64::to_bits(x)));
+        return f64::from_bits(root_bits(x.to_bits()));
     }
     if (x == 0.0) | (1.7976931348623157e308 < x) {
         return x;
@@ -33,7 +33,7 @@ fn shift(b: u64) -> u32
     requires { (0 < b) × (b < 2 ^ 52) }
     ensures { (result ≡ shift_of b) × (result ≤ 52) }
 {
-    u64::leading_zeros(b) - 11
+    b.leading_zeros() - 11
 }
 
 // The significand of a positive pattern, bit 52 set.
@@ -53,7 +53,7 @@ fn exponent(b: u64) -> u64
     ensures { (result ≡ exponent_of b) × (972 ≤ result) × (result ≤ 3070) }
 {
     if b < 0x10_0000_0000_0000 {
-        return 1024 - (shift(b) as u64);
+        return 1024 - u64::from(shift(b));
     }
     b / 0x10_0000_0000_0000 + 1023
 }
@@ -114,7 +114,7 @@ fn estimate(x: u64) -> u64
     let y = 0.5 * (y + a / y);
     let y = 0.5 * (y + a / y);
     if 0.0 < y {
-        return digits_of(f64::to_bits(y));
+        return digits_of(y.to_bits());
     }
     1
 }
@@ -150,14 +150,14 @@ fn root_digits(x: u64) -> u64
     let mut root: u64 = 0;
     let mut left = 2 * x;
     let mut bit: u64 = 0x20_0000_0000_0000;
-    for i in 0..54u64 {
+    for _ in 0..54u64 {
         let next = 2 * root + bit;
         if next <= left {
-            left = left - next;
-            root = root + bit;
+            left -= next;
+            root += bit;
         }
         left = 2 * left;
-        bit = bit / 2;
+        bit /= 2;
     }
     root
 }

@@ -37,14 +37,14 @@ fn next(g: Generator) -> Generator
     ensures { result ≡ is.next_of g }
 {
     let word = xorshift(g.word);
-    let counter = std::num::wrapping_add_u64(g.counter, 0x9E37_79B9_7F4A_7C15);
+    let counter = g.counter.wrapping_add(0x9E37_79B9_7F4A_7C15);
     Generator { word, counter }
 }
 
 fn drawn(g: Generator) -> u64
     ensures { result ≡ is.drawn_of g }
 {
-    std::num::wrapping_add_u64(g.word, g.counter)
+    g.word.wrapping_add(g.counter)
 }
 
 // The word's top 53 bits over 2^53: exact.
@@ -74,10 +74,8 @@ pub fn after(seed: u64, draws: u64) -> Generator
         word: seed,
         counter: 0,
     };
-    let mut k = 0u64;
-    while k < draws {
+    for _ in 0..draws {
         g = next(g);
-        k += 1;
     }
     g
 }
@@ -102,7 +100,7 @@ pub fn draw_state(g: Generator) -> DrawnState
 pub fn state_at(seed: u64, n: u32) -> State
     ensures { result ≡ is.state_of seed n }
 {
-    let g = after(seed, 2 * (n as u64));
+    let g = after(seed, 2 * u64::from(n));
     let drawn = draw_state(g);
     drawn.state
 }

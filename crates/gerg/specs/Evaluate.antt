@@ -1,5 +1,5 @@
 -- The properties of a homogeneous state from its derivatives, and rows 10 to 12 in the Rust's order.
-use Rattle.std.specs.Prelude.{Bool, not, ◌&&◌, ◌||◌, Float}
+use Rattle.std.specs.Prelude.{Bool, not, ◌&&◌, ◌||◌, Float, Result, Ok, Err}
 use Rattle.std.specs.Float.Ieee.{le, eq, neg}
 use Rattle.std.specs.Float.Ieee.Scale.{finite}
 use Rattle.numerics.specs.Double.{◌⊕◌, ◌⊖◌, ◌⊗◌, ◌⊘◌, bits, +0, one, two, pick}
@@ -10,13 +10,10 @@ use Rattle.gerg_reducing.specs.declared.GergModel.{GergModel}
 use Rattle.gerg.specs.declared.GergState.{GergState}
 use Rattle.gerg.specs.declared.Range.{Range}
 use Rattle.gerg_derivatives.specs.declared.derivatives.GergDerivatives.{GergDerivatives}
-use Rattle.gerg.specs.declared.helmholtz.HelmholtzAnswer.{HelmholtzAnswer}
-use Rattle.gerg.specs.declared.helmholtz.HelmholtzAnswer.TheVariants as derived
 use Rattle.gerg.specs.declared.evaluate.Parts.{Parts}
-use Rattle.gerg.specs.declared.evaluate.EvaluateAnswer.{EvaluateAnswer}
-use Rattle.gerg.specs.declared.evaluate.EvaluateAnswer.TheVariants.{State, Refused}
 use Rattle.gerg.specs.Helmholtz.{helmholtz_of}
-use Rattle.gerg.specs.HelmholtzNumbers as helmholtz
+use Rattle.gerg_refusals.specs.declared.Refusal.{Refusal}
+use Rattle.gerg_refusals.specs.declared.Refusal.TheVariants as refusal
 
 -- "R = 8.314472 everywhere"
 abbrev pub gas_constant : Float
@@ -108,17 +105,17 @@ unfoldable pub pressure_out : Float → Float → Bool
 pressure_out high pressure = not (le +0 pressure && le pressure high) || eq pressure +0
 
 -- rows 10, 11, 12, then the state
-unfoldable pub admitted_of : GergDerivatives → Float → Float → Float → Float → EvaluateAnswer
+unfoldable pub admitted_of : GergDerivatives → Float → Float → Float → Float → Result GergState Refusal
 admitted_of a temperature rho mass high =
-    pick (unstable a temperature) (Refused 10)
-    (pick (pressure_out high (pressure_of a temperature rho)) (Refused 11)
-    (pick (finite_state (state_of a temperature rho mass)) (State (state_of a temperature rho mass)) (Refused 12)))
+    pick (unstable a temperature) (Err refusal.Unstable)
+    (pick (pressure_out high (pressure_of a temperature rho)) (Err refusal.Pressure)
+    (pick (finite_state (state_of a temperature rho mass)) (Ok (state_of a temperature rho mass)) (Err refusal.NotFinite)))
 
-unfoldable pub admitted_answer : Float → Float → Float → Float → HelmholtzAnswer → EvaluateAnswer
-admitted_answer temperature rho mass high (derived.Derivatives a) = admitted_of a temperature rho mass high
-admitted_answer temperature rho mass high (derived.Refused number) = Refused (helmholtz.number_of (derived.Refused number))
+unfoldable pub admitted_answer : Float → Float → Float → Float → Result GergDerivatives Refusal → Result GergState Refusal
+admitted_answer temperature rho mass high (Ok a) = admitted_of a temperature rho mass high
+admitted_answer temperature rho mass high (Err r) = Err r
 
 -- rows 6 to 12
-unfoldable pub evaluate_of : Tables → GergModel → Range → Float → Float → EvaluateAnswer
+unfoldable pub evaluate_of : Tables → GergModel → Range → Float → Float → Result GergState Refusal
 evaluate_of t m range temperature rho =
     admitted_answer temperature rho m.molar_mass range.pressure_high (helmholtz_of t m range temperature rho)

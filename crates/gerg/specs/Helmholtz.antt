@@ -1,5 +1,5 @@
 -- Rows 6 to 9, and the nine derivatives at a temperature and a molar density where they pass.
-use Rattle.std.specs.Prelude.{Bool, not, ◌&&◌, Float}
+use Rattle.std.specs.Prelude.{Bool, not, ◌&&◌, Float, Result, Ok, Err}
 use Rattle.std.specs.Float.Ieee.{le}
 use Rattle.std.specs.Float.Ieee.Scale.{finite}
 use Rattle.numerics.specs.Double.{bits, +0, pick}
@@ -10,8 +10,8 @@ use Rattle.gerg_derivatives.specs.declared.derivatives.GergDerivatives.{GergDeri
 use Rattle.gerg_derivatives.specs.Derivatives.{zero_derivatives}
 use Rattle.gerg_terms.specs.Terms.{components_of}
 use Rattle.gerg.specs.declared.Range.{Range}
-use Rattle.gerg.specs.declared.helmholtz.HelmholtzAnswer.{HelmholtzAnswer}
-use Rattle.gerg.specs.declared.helmholtz.HelmholtzAnswer.TheVariants.{Derivatives, Refused}
+use Rattle.gerg_refusals.specs.declared.Refusal.{Refusal}
+use Rattle.gerg_refusals.specs.declared.Refusal.TheVariants as refusal
 
 unfoldable pub all_finite : GergDerivatives → Bool
 all_finite a =
@@ -19,8 +19,8 @@ all_finite a =
     finite a.a0 && finite a.a0_t && finite a.a0_tt
 
 -- "a derivative nonfinite": row 9
-unfoldable pub checked_of : GergDerivatives → HelmholtzAnswer
-checked_of a = pick (all_finite a) (Derivatives a) (Refused 9)
+unfoldable pub checked_of : GergDerivatives → Result GergDerivatives Refusal
+checked_of a = pick (all_finite a) (Ok a) (Err refusal.Derivative)
 
 -- "T not in 200..450 or density not in 1e-3..30000, ends allowed", the ends of T as the range has them
 unfoldable pub within_range : Range → Float → Float → Bool
@@ -29,11 +29,11 @@ within_range range temperature rho =
     (le (bits 0x3f50_624d_d2f1_a9fc) rho && le rho (bits 0x40dd_4c00_0000_0000))
 
 -- rows 6 to 9: "density nonfinite", "density ≤ 0", out of range, "a derivative nonfinite"
-unfoldable pub helmholtz_of : Tables → GergModel → Range → Float → Float → HelmholtzAnswer
+unfoldable pub helmholtz_of : Tables → GergModel → Range → Float → Float → Result GergDerivatives Refusal
 helmholtz_of t m range temperature rho =
-    pick (not (finite rho)) (Refused 6)
-    (pick (le rho +0) (Refused 7)
-    (pick (not (within_range range temperature rho)) (Refused 8)
+    pick (not (finite rho)) (Err refusal.DensityNotFinite)
+    (pick (le rho +0) (Err refusal.DensityNotPositive)
+    (pick (not (within_range range temperature rho)) (Err refusal.OutsideRange)
     (checked_of (components_of t m.fractions temperature rho (delta_of m rho) (tau_of m temperature) zero_derivatives))))
 
 -- 200 K, 450 K, 35e6 Pa

@@ -1,6 +1,4 @@
 -- Rows 6 to 12 and the properties of a state, in document 01's order.
 pub mod Helmholtz
-pub mod HelmholtzNumbers
 pub mod Evaluate
-pub mod EvaluateNumbers
 pub mod Answered

@@ -1,27 +1,23 @@
 // The properties of a homogeneous state, and rows 6 to 12.
+#![tactic(auto, unfolding(crate::specs::Evaluate::compressibility_of, crate::specs::Evaluate::pressure_of, crate::specs::Evaluate::stiffness_of, crate::specs::Evaluate::pressure_slope_of, crate::specs::Evaluate::cv_of, crate::specs::Evaluate::cp_of, crate::specs::Evaluate::internal_energy_of, crate::specs::Evaluate::helmholtz_energy_of, crate::specs::Evaluate::entropy_of, crate::specs::Evaluate::speed_of_sound_of, crate::specs::Evaluate::parts_of, crate::specs::Evaluate::state_from, crate::specs::Evaluate::state_of, crate::specs::Evaluate::finite_state, crate::specs::Evaluate::unstable, crate::specs::Evaluate::pressure_out, crate::specs::Evaluate::admitted_of, crate::specs::Evaluate::admitted_answer, crate::specs::Evaluate::evaluate_of))]
+
 ghost use Rattle.std.specs.Prelude.{◌≡◌};
-ghost use Rattle.gerg_tables.specs.Tables.{tables, Shaped};
-ghost use Rattle.gerg_isotherm.specs.Isotherm.{isotherm_of};
+ghost use Rattle.gerg_tables.specs.Lent.{lent};
 ghost use Rattle.gerg.specs.Evaluate as is;
 
-use crate::helmholtz::HelmholtzAnswer;
 use crate::{GergState, Range, helmholtz};
 use elementary::power;
 use elementary_sqrt::sqrt;
 use gerg_derivatives::derivatives::GergDerivatives;
 use gerg_isotherm::isotherm;
+use gerg_isotherm::lent::Isotherm;
 use gerg_reducing::GergModel;
+use gerg_refusals::Refusal;
+use gerg_tables::coefficients::Coefficients;
 use gerg_tables::numbers::is_finite;
 
 // The gas constant of the equation, J/(mol K).
 pub const GERG_GAS_CONSTANT: f64 = 8.314472;
-
-#[derive(Clone, Copy)]
-pub enum EvaluateAnswer {
-    State(GergState),
-    // with document 01's number
-    Refused(u8),
-}
 
 fn compressibility(a: GergDerivatives) -> f64
     ensures { result ≡ is.compressibility_of a }
@@ -176,65 +172,52 @@ fn pressure_out(high: f64, pressure: f64) -> bool
 }
 
 // Rows 10 to 12, then the state.
-fn admitted(a: GergDerivatives, temperature: f64, rho: f64, mass: f64, high: f64) -> EvaluateAnswer
-    ensures { result ≡ is.admitted_of a temperature rho mass high }
-{
-    if unstable(a, temperature) {
-        return EvaluateAnswer::Refused(10);
-    }
-    if pressure_out(high, pressure(a, temperature, rho)) {
-        return EvaluateAnswer::Refused(11);
-    }
-    let s = state_of(a, temperature, rho, mass);
-    if finite_state(s) {
-        return EvaluateAnswer::State(s);
-    }
-    EvaluateAnswer::Refused(12)
-}
-
-fn admitted_answer(
-    h: HelmholtzAnswer,
+fn admitted(
+    a: GergDerivatives,
     temperature: f64,
     rho: f64,
     mass: f64,
     high: f64,
-) -> EvaluateAnswer
-    ensures { result ≡ is.admitted_answer temperature rho mass high h }
+) -> Result<GergState, Refusal>
+    ensures { result ≡ is.admitted_of a temperature rho mass high }
 {
-    match h {
-        HelmholtzAnswer::Derivatives(a) => admitted(a, temperature, rho, mass, high),
-        HelmholtzAnswer::Refused(number) => EvaluateAnswer::Refused(number),
+    if unstable(a, temperature) {
+        return Err(Refusal::Unstable);
     }
+    if pressure_out(high, pressure(a, temperature, rho)) {
+        return Err(Refusal::Pressure);
+    }
+    let s = state_of(a, temperature, rho, mass);
+    if finite_state(s) {
+        return Ok(s);
+    }
+    Err(Refusal::NotFinite)
 }
 
 // Rows 6 to 12 at one density of an isotherm.
-pub fn evaluate_at<'a>(
-    doubles: &'a [f64; 4086],
-    integers: &'a [u8; 1631],
-    isotherm: &'a [f64; 939],
-    model: GergModel,
-    range: Range,
-    temperature: f64,
-    rho: f64,
-) -> EvaluateAnswer
-    requires { Shaped (tables doubles.now integers.now) × (isotherm.now ≡ isotherm_of (tables doubles.now integers.now) model temperature) }
-    ensures { result ≡ is.evaluate_of (tables doubles.now integers.now) model range temperature rho }
+pub fn evaluate_at(isotherm: Isotherm, range: Range, rho: f64) -> Result<GergState, Refusal>
+    ensures { result ≡ is.evaluate_of (lent isotherm.entry.coefficients) isotherm.entry.model.now range isotherm.entry.temperature rho }
 {
-    let h = helmholtz::helmholtz_at(doubles, integers, isotherm, model, range, temperature, rho);
-    admitted_answer(h, temperature, rho, model.molar_mass, range.pressure_high)
+    let a = helmholtz::helmholtz_at(isotherm, range, rho)?;
+    let mass = isotherm.model.molar_mass;
+    admitted(a, isotherm.temperature, rho, mass, range.pressure_high)
 }
 
-pub fn evaluate<'a>(
-    doubles: &'a [f64; 4086],
-    integers: &'a [u8; 1631],
-    model: GergModel,
+pub fn evaluate(
+    coefficients: Coefficients,
+    model: &GergModel,
     range: Range,
     temperature: f64,
     rho: f64,
-) -> EvaluateAnswer
-    requires { Shaped (tables doubles.now integers.now) }
-    ensures { result ≡ is.evaluate_of (tables doubles.now integers.now) model range temperature rho }
+) -> Result<GergState, Refusal>
+    ensures { result ≡ is.evaluate_of (lent coefficients.entry) model.now range temperature rho }
 {
-    let cells = isotherm::isotherm(doubles, integers, model, temperature);
-    evaluate_at(doubles, integers, &cells, model, range, temperature, rho)
+    let cells = isotherm::isotherm(coefficients, model, temperature);
+    let isotherm = Isotherm {
+        coefficients,
+        model,
+        temperature,
+        cells: &cells,
+    };
+    evaluate_at(isotherm, range, rho)
 }

@@ -1,22 +1,19 @@
 // Rows 6 to 9, and the nine derivatives where they pass.
+#![tactic(auto, unfolding(crate::specs::Helmholtz::all_finite, crate::specs::Helmholtz::checked_of, crate::specs::Helmholtz::within_range, crate::specs::Helmholtz::helmholtz_of, gerg_terms::specs::Points::sums_of, crate::specs::Helmholtz::normal_range, crate::specs::Helmholtz::extended_range))]
+
 ghost use Rattle.std.specs.Prelude.{◌≡◌};
-ghost use Rattle.gerg_tables.specs.Tables.{tables, Shaped};
-ghost use Rattle.gerg_isotherm.specs.Isotherm.{isotherm_of};
+ghost use Rattle.gerg_tables.specs.Lent.{lent};
 ghost use Rattle.gerg.specs.Helmholtz as is;
 
 use crate::Range;
 use gerg_derivatives::derivatives::GergDerivatives;
 use gerg_isotherm::isotherm;
+use gerg_isotherm::lent::Isotherm;
 use gerg_reducing::GergModel;
+use gerg_refusals::Refusal;
+use gerg_tables::coefficients::Coefficients;
 use gerg_tables::numbers::is_finite;
 use gerg_terms::sums;
-
-#[derive(Clone, Copy)]
-pub enum HelmholtzAnswer {
-    Derivatives(GergDerivatives),
-    // with document 01's number
-    Refused(u8),
-}
 
 fn all_finite(a: GergDerivatives) -> bool
     ensures { result ≡ is.all_finite a }
@@ -32,13 +29,14 @@ fn all_finite(a: GergDerivatives) -> bool
         & is_finite(a.a0_tt)
 }
 
-fn checked(a: GergDerivatives) -> HelmholtzAnswer
+// Row 9.
+fn checked(a: GergDerivatives) -> Result<GergDerivatives, Refusal>
     ensures { result ≡ is.checked_of a }
 {
     if all_finite(a) {
-        return HelmholtzAnswer::Derivatives(a);
+        return Ok(a);
     }
-    HelmholtzAnswer::Refused(9)
+    Err(Refusal::Derivative)
 }
 
 fn within_range(range: Range, temperature: f64, rho: f64) -> bool
@@ -72,54 +70,37 @@ pub fn extended_range() -> Range
 }
 
 // Rows 6 to 9 at one density of an isotherm.
-pub fn helmholtz_at<'a>(
-    doubles: &'a [f64; 4086],
-    integers: &'a [u8; 1631],
-    isotherm: &'a [f64; 939],
-    model: GergModel,
-    range: Range,
-    temperature: f64,
-    rho: f64,
-) -> HelmholtzAnswer
-    requires { Shaped (tables doubles.now integers.now) × (isotherm.now ≡ isotherm_of (tables doubles.now integers.now) model temperature) }
-    ensures { result ≡ is.helmholtz_of (tables doubles.now integers.now) model range temperature rho }
+pub fn helmholtz_at(isotherm: Isotherm, range: Range, rho: f64) -> Result<GergDerivatives, Refusal>
+    ensures { result ≡ is.helmholtz_of (lent isotherm.entry.coefficients) isotherm.entry.model.now range isotherm.entry.temperature rho }
 {
     if !is_finite(rho) {
-        return HelmholtzAnswer::Refused(6);
+        return Err(Refusal::DensityNotFinite);
     }
     if rho <= 0.0 {
-        return HelmholtzAnswer::Refused(7);
+        return Err(Refusal::DensityNotPositive);
     }
-    if !within_range(range, temperature, rho) {
-        return HelmholtzAnswer::Refused(8);
+    if !within_range(range, isotherm.temperature, rho) {
+        return Err(Refusal::OutsideRange);
     }
-    let x = model.fractions;
-    let delta = rho / model.reducing_density;
-    let tau = model.reducing_temperature / temperature;
-    let a = sums::sums(
-        doubles,
-        integers,
-        isotherm,
-        &x,
-        temperature,
-        rho,
-        delta,
-        tau,
-    );
+    let a = sums::sums(isotherm, rho);
     checked(a)
 }
 
-pub fn helmholtz<'a>(
-    doubles: &'a [f64; 4086],
-    integers: &'a [u8; 1631],
-    model: GergModel,
+pub fn helmholtz(
+    coefficients: Coefficients,
+    model: &GergModel,
     range: Range,
     temperature: f64,
     rho: f64,
-) -> HelmholtzAnswer
-    requires { Shaped (tables doubles.now integers.now) }
-    ensures { result ≡ is.helmholtz_of (tables doubles.now integers.now) model range temperature rho }
+) -> Result<GergDerivatives, Refusal>
+    ensures { result ≡ is.helmholtz_of (lent coefficients.entry) model.now range temperature rho }
 {
-    let cells = isotherm::isotherm(doubles, integers, model, temperature);
-    helmholtz_at(doubles, integers, &cells, model, range, temperature, rho)
+    let cells = isotherm::isotherm(coefficients, model, temperature);
+    let isotherm = Isotherm {
+        coefficients,
+        model,
+        temperature,
+        cells: &cells,
+    };
+    helmholtz_at(isotherm, range, rho)
 }

@@ -1,3 +1,2 @@
 -- What the C exports make of an answer.
-pub mod PropertiesNumbers
 pub mod Answers

@@ -1,34 +1,22 @@
 // What the C exports make of an answer: number × 2^32 + value, and the doubles that an accepted one leaves in lent memory.
-#![tactic(auto)]
+#![tactic(auto, unfolding(crate::specs::Answers::accepted_code, crate::specs::Answers::numbers_of, crate::specs::Answers::properties_written, crate::specs::Answers::density_numbers, crate::specs::Answers::density_written, crate::specs::Answers::saturation_code, crate::specs::Answers::saturation_numbers, crate::specs::Answers::saturation_written, gerg_refusals::specs::Code::code, gerg_refusals::specs::Code::code_of))]
 
 ghost use Rattle.std.specs.Prelude.{◌≡◌};
 ghost use Rattle.gerg_answers.specs.Answers as is;
 
-use chromatograph::ListAnswer;
 use gerg::GergState;
-use gerg_density::{DensityAnswer, DensityResult};
-use gerg_root_list::RootsAnswer;
-use gerg_saturation::{PureSaturation, SaturationAnswer};
+use gerg_density::DensityResult;
+use gerg_refusals::Refusal;
+use gerg_refusals::code::code;
+use gerg_saturation::PureSaturation;
 
-// A state, or document 01's number and value.
-#[derive(Clone, Copy)]
-pub enum PropertiesAnswer {
-    State(GergState),
-    Refused { number: u8, value: usize },
-}
-
-pub fn code(number: u8, value: usize) -> u64
-    ensures { result ≡ is.code_of number value }
-{
-    (number as u64) * 0x1_0000_0000 + (value as u64) % 0x1_0000_0000
-}
-
-pub fn properties_code(answer: PropertiesAnswer) -> u64
-    ensures { result ≡ is.properties_code answer }
+// The code of an answer that reports nothing beside number 0.
+pub fn accepted_code<T: Copy>(answer: Result<T, Refusal>) -> u64
+    ensures { result ≡ is.accepted_code answer }
 {
     match answer {
-        PropertiesAnswer::State(_) => 0,
-        PropertiesAnswer::Refused { number, value } => code(number, value),
+        Ok(_) => 0,
+        Err(refusal) => code(Err(refusal)),
     }
 }
 
@@ -65,20 +53,11 @@ fn numbers(s: GergState) -> [f64; 24]
     ]
 }
 
-pub fn put_properties(answer: PropertiesAnswer, out: &mut [f64; 24])
+pub fn put_properties(answer: Result<GergState, Refusal>, out: &mut [f64; 24])
     ensures { out.new ≡ is.properties_written answer out.old }
 {
-    if let PropertiesAnswer::State(s) = answer {
+    if let Ok(s) = answer {
         *out = numbers(s);
-    }
-}
-
-pub fn density_code(answer: DensityAnswer) -> u64
-    ensures { result ≡ is.density_code answer }
-{
-    match answer {
-        DensityAnswer::Accepted(_) => 0,
-        DensityAnswer::Refused { number, value } => code(number, value),
     }
 }
 
@@ -123,39 +102,22 @@ fn density_numbers(r: DensityResult) -> [f64; 30]
     ]
 }
 
-pub fn put_density(answer: DensityAnswer, out: &mut [f64; 30])
+pub fn put_density(answer: Result<DensityResult, Refusal>, out: &mut [f64; 30])
     ensures { out.new ≡ is.density_written answer out.old }
 {
-    if let DensityAnswer::Accepted(r) = answer {
+    if let Ok(r) = answer {
         *out = density_numbers(r);
     }
 }
 
-pub fn roots_code(answer: RootsAnswer) -> u64
-    ensures { result ≡ is.roots_code answer }
-{
-    match answer {
-        RootsAnswer::Roots(n) => code(0, n),
-        RootsAnswer::Refused { number, value } => code(number, value),
-    }
-}
-
-pub fn saturation_code(answer: SaturationAnswer) -> u64
+// Found: 1 beside number 0; not enclosed: 0.
+pub fn saturation_code(answer: Result<Option<PureSaturation>, Refusal>) -> u64
     ensures { result ≡ is.saturation_code answer }
 {
     match answer {
-        SaturationAnswer::Found(_) => code(0, 1),
-        SaturationAnswer::NotEnclosed => code(0, 0),
-        SaturationAnswer::Refused { number, value } => code(number, value),
-    }
-}
-
-pub fn list_code(answer: ListAnswer) -> u64
-    ensures { result ≡ is.list_code answer }
-{
-    match answer {
-        ListAnswer::Listed(n) => code(0, n),
-        ListAnswer::Refused { number, value } => code(number, value),
+        Ok(Some(_)) => 1,
+        Ok(None) => 0,
+        Err(refusal) => code(Err(refusal)),
     }
 }
 
@@ -177,17 +139,10 @@ fn saturation_numbers(s: PureSaturation) -> [f64; 9]
     ]
 }
 
-pub fn put_saturation(answer: SaturationAnswer, out: &mut [f64; 9])
+pub fn put_saturation(answer: Result<Option<PureSaturation>, Refusal>, out: &mut [f64; 9])
     ensures { out.new ≡ is.saturation_written answer out.old }
 {
-    match answer {
-        SaturationAnswer::Found(s) => {
-            *out = saturation_numbers(s);
-        }
-        SaturationAnswer::NotEnclosed => {}
-        SaturationAnswer::Refused {
-            number: _,
-            value: _,
-        } => {}
+    if let Ok(Some(s)) = answer {
+        *out = saturation_numbers(s);
     }
 }

@@ -1,5 +1,5 @@
 -- The cases of document 01 that are proved about the definitions, gathered into one table and one theorem. Assumes nothing.
-use mathlib.Core.Path.{◌≡◌, ap, ◌∙◌}
+use mathlib.Core.Path.{◌≡◌, refl, sym, ap, ◌∙◌}
 use mathlib.Core.List.{List, [], ◌∷◌}
 use Prim.Native.Nat.{ℕ}
 use native.Mathlib.Omega.{arith}
@@ -21,7 +21,6 @@ use Rattle.gerg_model.specs.Mixture.{by_component, model_of}
 use Rattle.gerg_reducing.specs.Reducing.{gradients_of}
 use Rattle.gerg_model_cases.specs.Cases.{equal_tables}
 use Rattle.gerg_model_cases.proofs.Cases.{pure_density, pure_temperature, pure_gradient, halves_density}
-use Rattle.gerg.specs.declared.helmholtz.HelmholtzAnswer.TheVariants as derived
 use Rattle.gerg_derivatives.specs.Derivatives.{zero_derivatives, term_of}
 use Rattle.gerg_derivatives.proofs.Laws.Cases.{term_case}
 use Rattle.gerg_reducing.specs.Reduced.{delta_of, tau_of}
@@ -29,17 +28,18 @@ use Rattle.gerg_terms.specs.Terms.{components_of}
 use Rattle.gerg.specs.Helmholtz.{helmholtz_of, normal_range, checked_of}
 use Rattle.gerg.proofs.Laws.Cases.{passes_200, below_200, density_first}
 use Rattle.gerg_density.specs.Cases.{empty_at}
-use Rattle.gerg_density.specs.DensityNumbers as ofDensity
 use Rattle.gerg_density.proofs.Laws.Cases.{case_13}
-use Rattle.gerg_prepared.specs.Mixed as ofRows
+use Rattle.gerg_refusals.specs.Answer.{number_of, value_of}
+use Rattle.gerg_refusals.proofs.Then.{accepted}
 use Rattle.gerg_prepared.specs.Mixed.{mixed_of}
-use Rattle.gerg_prepared.specs.declared.Refusal.TheVariants.{Refused}
-use Rattle.gerg_answers.specs.PropertiesNumbers as ofProperties
+use Rattle.gerg_prepared.proofs.Laws.{file_rows}
 use Rattle.gerg_calls.specs.Calls.{properties_of, density_call}
 use Rattle.gerg_api.specs.Promised.{Prepared}
 use Rattle.gerg_calls.proofs.Laws.After.{density_answer}
-use Rattle.gerg_prepared.proofs.Refused.{nothing_refused, file_rows}
 use Rattle.gerg_api.proofs.Promises.Refusals.{properties_rows}
+use Rattle.std.specs.Prelude.{Result, Ok, Err}
+use Rattle.gerg_refusals.specs.declared.Refusal.TheVariants as refusal
+use Rattle.gerg_refusals.specs.declared.Refusal.{Refusal}
 
 pub record Cases : Type 0 where
   -- "exp 0 = 1; ln 1 = 0; sqrt 4 = 2"
@@ -72,37 +72,40 @@ pub record Cases : Type 0 where
   pub t_200 :
       (t : Tables) (m : GergModel) →
       helmholtz_of t m normal_range (bits 0x4069_0000_0000_0000) one ≡ checked_of (components_of t m.fractions (bits 0x4069_0000_0000_0000) one (delta_of m one) (tau_of m (bits 0x4069_0000_0000_0000)) zero_derivatives)
-  pub t_below_200 : (t : Tables) (m : GergModel) → helmholtz_of t m normal_range (bits 0x4068_ffff_ffff_ffff) one ≡ derived.Refused 8
-  pub density_minus_1 : (t : Tables) (m : GergModel) → helmholtz_of t m normal_range (bits 0x4059_0000_0000_0000) (neg one) ≡ derived.Refused 7
+  pub t_below_200 : (t : Tables) (m : GergModel) → helmholtz_of t m normal_range (bits 0x4068_ffff_ffff_ffff) one ≡ Err refusal.OutsideRange
+  pub density_minus_1 : (t : Tables) (m : GergModel) → helmholtz_of t m normal_range (bits 0x4059_0000_0000_0000) (neg one) ≡ Err refusal.DensityNotPositive
   -- "lo = hi, limit 0, tolerance 0: 13"
   pub no_bracket :
       (bytes list : List ℕ) (fractions : List Float) (temperature target x : Float) → Prepared bytes list fractions →
-      (ofDensity.number_of (density_call bytes list fractions temperature target (empty_at x)) ≡ 13) × (ofDensity.value_of (density_call bytes list fractions temperature target (empty_at x)) ≡ 0)
+      (number_of (density_call bytes list fractions temperature target (empty_at x)) ≡ 13) × (value_of (density_call bytes list fractions temperature target (empty_at x)) ≡ 0)
   -- "empty file: 1 at 0"
   pub no_file :
       (list : List ℕ) (fractions : List Float) (temperature rho : Float) →
-      (ofProperties.number_of (properties_of [] list fractions temperature rho) ≡ 1) × (ofProperties.value_of (properties_of [] list fractions temperature rho) ≡ 0)
+      (number_of (properties_of [] list fractions temperature rho) ≡ 1) × (value_of (properties_of [] list fractions temperature rho) ≡ 0)
 
 bracket_case :
     (bytes list : List ℕ) (fractions : List Float) (temperature target x : Float) → Prepared bytes list fractions →
-    (ofDensity.number_of (density_call bytes list fractions temperature target (empty_at x)) ≡ 13) × (ofDensity.value_of (density_call bytes list fractions temperature target (empty_at x)) ≡ 0)
+    (number_of (density_call bytes list fractions temperature target (empty_at x)) ≡ 13) × (value_of (density_call bytes list fractions temperature target (empty_at x)) ≡ 0)
 bracket_case bytes list fractions temperature target x n =
-    let e = density_answer bytes list fractions normal_range temperature target (empty_at x) (nothing_refused bytes list fractions n) in
-    let c = case_13 (tables_of bytes) (mixed_of bytes list fractions).model normal_range temperature target x in
-    (ap ofDensity.number_of e ∙ c.0, ap ofDensity.value_of e ∙ c.1)
+    let p = accepted (mixed_of bytes list fractions) n in
+    let e = density_answer bytes list fractions normal_range temperature p.0 p.1 target (empty_at x) in
+    let c = case_13 (tables_of bytes) (p.0).model normal_range temperature target x in
+    (ap number_of e ∙ c.0, ap value_of e ∙ c.1)
 
 file_case :
     (list : List ℕ) (fractions : List Float) (temperature rho : Float) →
-    (ofProperties.number_of (properties_of [] list fractions temperature rho) ≡ 1) × (ofProperties.value_of (properties_of [] list fractions temperature rho) ≡ 0)
+    (number_of (properties_of [] list fractions temperature rho) ≡ 1) × (value_of (properties_of [] list fractions temperature rho) ≡ 0)
 file_case list fractions temperature rho =
-    let e = properties_rows [] list fractions (one (ofRows.number_of (mixed_of [] list fractions).refusal) (ap ofRows.number_of rows ∙ empty_file_number)) normal_range temperature rho in
-    (ap ofProperties.number_of e ∙ ap ofRows.number_of rows ∙ empty_file_number, ap ofProperties.value_of e ∙ ap ofRows.value_of rows ∙ empty_file_value)
+    let r = refused (answer_of []) refl empty_file_number in
+    let e = properties_rows [] list fractions r.0 (file_rows [] list fractions r.0 r.1) normal_range temperature rho in
+    (ap number_of e ∙ sym (ap number_of r.1) ∙ empty_file_number, ap value_of e ∙ sym (ap File.value_of r.1) ∙ empty_file_value)
   where
-    one : (n : ℕ) → n ≡ 1 → n ≡ 0 → ⊥
-    one n a b = omega arith
-
-    rows : (mixed_of [] list fractions).refusal ≡ Refused (File.number_of (answer_of [])) (File.value_of (answer_of []))
-    rows = file_rows [] list fractions (one (File.number_of (answer_of [])) empty_file_number)
+    refused : (x : Result ℕ Refusal) → answer_of [] ≡ x → File.number_of (answer_of []) ≡ 1 → (r : Refusal) × (answer_of [] ≡ Err r)
+    refused (Ok n) q e = absurd (unlike (sym (ap File.number_of q) ∙ e))
+      where
+        unlike : ◌≡◌ {A = ℕ} 0 1 → ⊥
+        unlike z = omega arith
+    refused (Err r) q e = (r, q)
 
 pub cases : Cases
 cases = record {

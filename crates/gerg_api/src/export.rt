@@ -1,13 +1,16 @@
 // The public calls for C: number × 2^32 + value, 0 when accepted; a slice is a pointer and a length.
 ghost use Rattle.std.specs.Prelude.{◌≡◌};
+ghost use Rattle.gerg_refusals.specs.Code.{code};
 ghost use Rattle.gerg_answers.specs.Answers as answers;
 ghost use Rattle.gerg_calls.specs.Calls as is;
 ghost use Rattle.gerg_equilibrium.specs.Equilibrium as equilibrium;
 ghost use Rattle.gerg_states.specs.States as drawn;
 
 use crate::options;
+use gerg::helmholtz;
 use gerg_calls::{density, fugacity, properties};
 use gerg_equilibrium::{roots, saturation};
+use gerg_refusals::code::code;
 use gerg_states::{Run, counts, state};
 
 #[unsafe(no_mangle)]
@@ -19,12 +22,13 @@ pub extern "C" fn gerg_properties(
     rho: f64,
     out: &mut [f64; 24],
 ) -> u64
-    ensures answer { result ≡ answers.properties_code (is.properties_of file.now list.now fractions.now t rho) }
+    ensures answer { result ≡ answers.accepted_code (is.properties_of file.now list.now fractions.now t rho) }
     ensures memory { out.new ≡ answers.properties_written (is.properties_of file.now list.now fractions.now t rho) out.old }
 {
-    let answer = properties::properties(file, list, fractions, t, rho);
+    let range = helmholtz::normal_range();
+    let answer = properties::properties(file, list, fractions, range, t, rho);
     gerg_answers::put_properties(answer, out);
-    gerg_answers::properties_code(answer)
+    gerg_answers::accepted_code(answer)
 }
 
 #[unsafe(no_mangle)]
@@ -36,11 +40,12 @@ pub extern "C" fn gerg_fugacity(
     rho: f64,
     out: &mut [f64],
 ) -> u64
-    ensures answer { result ≡ answers.properties_code (is.fugacity_answer file.now list.now fractions.now t rho out.old) }
+    ensures answer { result ≡ answers.accepted_code (is.fugacity_answer file.now list.now fractions.now t rho out.old) }
     ensures memory { out.new ≡ is.fugacity_written file.now list.now fractions.now t rho out.old }
 {
-    let answer = fugacity::fugacity(file, list, fractions, t, rho, out);
-    gerg_answers::properties_code(answer)
+    let range = helmholtz::normal_range();
+    let answer = fugacity::fugacity_at(file, list, fractions, range, t, rho, out);
+    gerg_answers::accepted_code(answer)
 }
 
 #[unsafe(no_mangle)]
@@ -56,13 +61,14 @@ pub extern "C" fn gerg_density(
     tolerance: f64,
     out: &mut [f64; 30],
 ) -> u64
-    ensures answer { result ≡ answers.density_code (is.density_call file.now list.now fractions.now t target (is.options_of lo hi limit tolerance)) }
+    ensures answer { result ≡ answers.accepted_code (is.density_call file.now list.now fractions.now t target (is.options_of lo hi limit tolerance)) }
     ensures memory { out.new ≡ answers.density_written (is.density_call file.now list.now fractions.now t target (is.options_of lo hi limit tolerance)) out.old }
 {
     let o = options(lo, hi, limit, tolerance);
-    let answer = density::density(file, list, fractions, t, target, o);
+    let range = helmholtz::normal_range();
+    let answer = density::density_at(file, list, fractions, range, t, target, o);
     gerg_answers::put_density(answer, out);
-    gerg_answers::density_code(answer)
+    gerg_answers::accepted_code(answer)
 }
 
 #[unsafe(no_mangle)]
@@ -74,11 +80,11 @@ pub extern "C" fn gerg_outer_roots(
     p: f64,
     out: &mut [f64],
 ) -> u64
-    ensures answer { result ≡ answers.roots_code (equilibrium.roots_call file.now list.now fractions.now t p out.old) }
+    ensures answer { result ≡ code (equilibrium.roots_call file.now list.now fractions.now t p out.old) }
     ensures memory { out.new ≡ equilibrium.roots_written file.now list.now fractions.now t p out.old }
 {
     let answer = roots::outer_roots(file, list, fractions, t, p, out);
-    gerg_answers::roots_code(answer)
+    code(answer)
 }
 
 #[unsafe(no_mangle)]

@@ -5,7 +5,8 @@ ghost use Rattle.gerg_answers.specs.Answers as answers;
 ghost use Rattle.gerg_calls.specs.Calls as is;
 
 use crate::options;
-use gerg_extended::{density, fugacity, properties};
+use gerg::helmholtz;
+use gerg_calls::{density, fugacity, properties};
 
 #[unsafe(no_mangle)]
 pub extern "C" fn gerg_properties_extended(
@@ -16,12 +17,13 @@ pub extern "C" fn gerg_properties_extended(
     rho: f64,
     out: &mut [f64; 24],
 ) -> u64
-    ensures answer { result ≡ answers.properties_code (is.properties_in file.now list.now fractions.now extended_range t rho) }
+    ensures answer { result ≡ answers.accepted_code (is.properties_in file.now list.now fractions.now extended_range t rho) }
     ensures memory { out.new ≡ answers.properties_written (is.properties_in file.now list.now fractions.now extended_range t rho) out.old }
 {
-    let answer = properties::properties_extended(file, list, fractions, t, rho);
+    let range = helmholtz::extended_range();
+    let answer = properties::properties(file, list, fractions, range, t, rho);
     gerg_answers::put_properties(answer, out);
-    gerg_answers::properties_code(answer)
+    gerg_answers::accepted_code(answer)
 }
 
 #[unsafe(no_mangle)]
@@ -33,11 +35,12 @@ pub extern "C" fn gerg_fugacity_extended(
     rho: f64,
     out: &mut [f64],
 ) -> u64
-    ensures answer { result ≡ answers.properties_code (is.fugacity_in file.now list.now fractions.now extended_range t rho out.old) }
+    ensures answer { result ≡ answers.accepted_code (is.fugacity_in file.now list.now fractions.now extended_range t rho out.old) }
     ensures memory { out.new ≡ is.fugacity_written_in file.now list.now fractions.now extended_range t rho out.old }
 {
-    let answer = fugacity::fugacity_extended(file, list, fractions, t, rho, out);
-    gerg_answers::properties_code(answer)
+    let range = helmholtz::extended_range();
+    let answer = fugacity::fugacity_at(file, list, fractions, range, t, rho, out);
+    gerg_answers::accepted_code(answer)
 }
 
 #[unsafe(no_mangle)]
@@ -53,11 +56,12 @@ pub extern "C" fn gerg_density_extended(
     tolerance: f64,
     out: &mut [f64; 30],
 ) -> u64
-    ensures answer { result ≡ answers.density_code (is.density_in file.now list.now fractions.now extended_range t target (is.options_of lo hi limit tolerance)) }
+    ensures answer { result ≡ answers.accepted_code (is.density_in file.now list.now fractions.now extended_range t target (is.options_of lo hi limit tolerance)) }
     ensures memory { out.new ≡ answers.density_written (is.density_in file.now list.now fractions.now extended_range t target (is.options_of lo hi limit tolerance)) out.old }
 {
     let o = options(lo, hi, limit, tolerance);
-    let answer = density::density_extended(file, list, fractions, t, target, o);
+    let range = helmholtz::extended_range();
+    let answer = density::density_at(file, list, fractions, range, t, target, o);
     gerg_answers::put_density(answer, out);
-    gerg_answers::density_code(answer)
+    gerg_answers::accepted_code(answer)
 }

@@ -1,16 +1,15 @@
 -- The ways through `read_tables`.
-use mathlib.Core.Path.{◌≡◌, refl, sym, ap, ◌∙◌}
+use mathlib.Core.Path.{◌≡◌, sym, ap, ◌∙◌}
 use mathlib.Core.List.{List}
-use Prim.Native.Nat.{ℕ, zero, suc}
+use Prim.Native.Nat.{ℕ}
 use lib.ListN.{replicate}
 use lib.Ieee.{Float}
 use Rattle.numerics.specs.Double.{+0}
-use Rattle.gerg_coefficients.specs.declared.Answer.{Answer}
-use Rattle.gerg_coefficients.specs.declared.Answer.TheVariants.{Accepted, Refused, Faulty}
 use Rattle.gerg_coefficients.specs.declared.TableFile.{TableFile}
 use Rattle.gerg_tables.specs.declared.Tables.{Tables}
-use Rattle.gerg_file.specs.declared.File.{File}
-use Rattle.gerg_file.specs.declared.File.TheVariants.{Malformed, WellFormed}
+use Rattle.std.specs.Prelude.{Result, Ok, Err}
+use Rattle.gerg_refusals.specs.declared.Fault.{Fault}
+use Rattle.gerg_refusals.specs.declared.Refusal.{Refusal}
 use Rattle.gerg_file.specs.declared.Layout.{Layout}
 use Rattle.gerg_file.specs.File.{file_of}
 use Rattle.gerg_coefficients.specs.Load.{doubles, integers, loaded, no_tables}
@@ -18,26 +17,19 @@ use Rattle.gerg_tables.specs.Check.{fault_of}
 use Rattle.gerg_coefficients.specs.Answer.{judged, answer_as, answer_of, tables_as, tables_of}
 use Rattle.gerg_coefficients.specs.TableFile.{table_file_of}
 
-pub accepted : {f : ℕ} (length : ℕ) → f ≡ 0 → Accepted length ≡ judged f length
-accepted length e = ap (λ (f : ℕ). judged f length) (sym e)
-
-pub faulty : (f length : ℕ) → (f ≡ 0 → ⊥) → Faulty f ≡ judged f length
-faulty zero length h = absurd (h refl)
-faulty (suc f) length h = refl
-
-pub malformed : (s : List ℕ) {at : ℕ} {w : File} → w ≡ file_of s → w ≡ Malformed at
-    → ◌≡◌ {A = TableFile} (record { answer = Refused at; tables = record { doubles = replicate 4086 +0; integers = replicate 1631 0 } }) (table_file_of s)
+pub malformed : (s : List ℕ) {r : Refusal} {w : Result Layout Refusal} → w ≡ file_of s → w ≡ Err r
+    → ◌≡◌ {A = TableFile} (record { answer = Err r; tables = record { doubles = replicate 4086 +0; integers = replicate 1631 0 } }) (table_file_of s)
 unfolding table_file_of answer_of tables_of answer_as tables_as no_tables
-malformed s e q = ap (λ (w : File). record { answer = answer_as s w; tables = tables_as s w }) (sym q ∙ e)
+malformed s e q = ap (λ (w : Result Layout Refusal). record { answer = answer_as s w; tables = tables_as s w }) (sym q ∙ e)
 
-pub well_formed : (s : List ℕ) {l : Layout} {w : File} {t : Tables} {f : ℕ} {a : Answer} → w ≡ file_of s → w ≡ WellFormed l → t ≡ loaded s l
+pub well_formed : (s : List ℕ) {l : Layout} {w : Result Layout Refusal} {t : Tables} {f : Result (Unit {0}) Fault} {a : Result ℕ Refusal} → w ≡ file_of s → w ≡ Ok l → t ≡ loaded s l
     → f ≡ fault_of t.doubles t.integers l.count → a ≡ judged f l.length
     → ◌≡◌ {A = TableFile} (record { answer = a; tables = t }) (table_file_of s)
 unfolding table_file_of answer_of tables_of answer_as tables_as loaded
 well_formed s {l} {t = t} e q h g r =
-    ap (λ (a : Answer). record { answer = a; tables = t }) (r ∙ ap (λ (f : ℕ). judged f l.length) g)
+    ap (λ (a : Result ℕ Refusal). record { answer = a; tables = t }) (r ∙ ap (λ (f : Result (Unit {0}) Fault). judged f l.length) g)
     ∙ ap (λ (t : Tables). record { answer = judged (fault_of t.doubles t.integers l.count) l.length; tables = t }) h
-    ∙ ap (λ (w : File). record { answer = answer_as s w; tables = tables_as s w }) (sym q ∙ e)
+    ∙ ap (λ (w : Result Layout Refusal). record { answer = answer_as s w; tables = tables_as s w }) (sym q ∙ e)
 
 pub loaded_is : (s : List ℕ) (l : Layout) {d : List Float} {n : List ℕ} → d ≡ doubles s l → n ≡ integers s l
     → ◌≡◌ {A = Tables} (record { doubles = d; integers = n }) (loaded s l)

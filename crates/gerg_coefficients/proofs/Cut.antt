@@ -9,12 +9,13 @@ use lib.Dec.{leb}
 use lib.ListN.{length, take}
 use lib.Seq.{take_all}
 use Rattle.gerg_file.specs.File.{file_of}
-use Rattle.gerg_file.specs.declared.File.TheVariants.{Malformed}
+use Rattle.std.specs.Prelude.{Err}
+use Rattle.gerg_refusals.specs.declared.Refusal.TheVariants.{File}
 use Rattle.gerg_file.proofs.Laws.Cut.{cut_file}
 use Rattle.gerg_coefficients.specs.Answer.{answer_as, answer_of, tables_as, tables_of}
 
 -- what both have where the file is refused at one offset
-module _ (s t : List ℕ) (at : ℕ) (e : file_of s ≡ Malformed at) (f : file_of t ≡ Malformed at) where
+module _ (s t : List ℕ) (at : ℕ) (e : file_of s ≡ Err (File at)) (f : file_of t ≡ Err (File at)) where
   same_answer : answer_of t ≡ answer_of s
   unfolding answer_of answer_as
   same_answer = ap (answer_as t) f ∙ sym (ap (answer_as s) e)

@@ -16,6 +16,7 @@ use Rattle.gerg_file.specs.Counts.{sum}
 use Rattle.gerg_file.specs.declared.Layout.{Layout}
 use Rattle.gerg_coefficients.specs.Load.{pairs, doubles}
 use Rattle.gerg_coefficients.specs.Filling.{FiniteAt, FinitePairs}
+use Rattle.std.proofs.Common.{Ok}
 use Rattle.gerg_tables.specs.Check.{first, nonfinite, number_fault}
 use Rattle.gerg_tables.proofs.Faults.{no_fault}
 use Rattle.gerg_coefficients.proofs.Numbers.{pair_number}
@@ -64,5 +65,5 @@ module _ (s : List ℕ) (l : Layout) (all : (i : ℕ) → i < 21 → FinitePairs
   pair_finite q i j a b c =
       ap (λ (x : Float). not (finite x)) (pair_is q i j a b c) ∙ ap not (all i (omega arith) (j - i) (omega arith) q a)
 
-  pub no_number_fault : first (number_fault (doubles s l)) 5 0 ≡ 0
+  pub no_number_fault : first (number_fault (doubles s l)) 5 0 ≡ Ok tt
   no_number_fault = no_fault (doubles s l) pair_finite

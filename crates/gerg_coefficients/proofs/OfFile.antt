@@ -14,7 +14,7 @@ use Rattle.gerg_file.specs.Bytes.{byte, double_at}
 use Rattle.gerg_file.specs.File.{file_of}
 use Rattle.gerg_file.specs.Counts.{terms_of, departures_of, component_record}
 use Rattle.gerg_file.proofs.Begins.{term_record, pair_record, function_record, departure_record}
-use Rattle.gerg_file.specs.declared.File.TheVariants.{WellFormed}
+use Rattle.std.specs.Prelude.{Ok}
 use Rattle.gerg_file.specs.declared.Layout.{Layout}
 use Rattle.gerg_tables.specs.declared.Tables.{Tables}
 use Rattle.gerg_tables.specs.Tables.{tc, mmi_gerg, n0i, th0i, noik, toik, btij, bvij, gtij, gvij, fij, cijk, eijk, gijk, nijk, tijk, kpol, kexp, coik, doik, m_numb, kpolij, kexpij, dijk}
@@ -23,11 +23,11 @@ use Rattle.gerg_coefficients.specs.Answer.{tables_as, tables_of}
 use Rattle.gerg_coefficients.proofs.Numbers.{file_double, file_byte, critical_number, ideal_number, term_number, pair_number, departure_number, count_number, term_byte, pair_byte, function_byte, departure_byte}
 
 -- the tables of a well-formed file
-tables_are : (s : List ℕ) (l : Layout) → file_of s ≡ WellFormed l → tables_of s ≡ loaded s l
+tables_are : (s : List ℕ) (l : Layout) → file_of s ≡ Ok l → tables_of s ≡ loaded s l
 unfolding tables_of tables_as
 tables_are s l e = ap (tables_as s) e
 
-module _ (s : List ℕ) (l : Layout) (e : file_of s ≡ WellFormed l) where
+module _ (s : List ℕ) (l : Layout) (e : file_of s ≡ Ok l) where
   pub doubles_are : (tables_of s).doubles ≡ doubles s l
   unfolding loaded
   doubles_are = ap (λ (t : Tables). t.doubles) (tables_are s l e)

@@ -12,6 +12,7 @@ use lib.ListN.{length, replicate, length-append, length-replicate}
 use lib.Seq.{sets}
 use Rattle.gerg_file.specs.Counts.{sum}
 use Rattle.gerg_file.proofs.Places.{sum_grows}
+use Rattle.gerg_file.proofs.Laws.Laid.{sum_within}
 use Rattle.gerg_coefficients.specs.Load.{flat, run_of, Records, place, present, row_of}
 use Rattle.gerg_coefficients.specs.Filling.{padded}
 use Rattle.gerg_coefficients.proofs.Padded.{padded_zeros, stored_on}
@@ -24,6 +25,10 @@ sum_none f = refl
 pub sum_on : (f : ℕ → ℕ) (n : ℕ) → sum f n + f n ≡ sum f (n + 1)
 unfolding sum
 sum_on f n = rw (add-one n)
+
+-- the records of row i of n, where each row follows the one before
+pub row_room : (f : ℕ → ℕ) (size from at i n end : ℕ) {count : ℕ} → i < n → count ≡ f i → at ≡ from + size * sum f i → from + size * sum f n ≤ end → at + size * count ≤ end
+row_room f size from at i n end h e p l = let g = sum_within f i n h in omega (arith, mul-le-mul_left size g, mul-add size (sum f i) (f i), ap (λ (m : ℕ). size * m) e)
 
 -- which records the file has
 and_false : (b : Bool) → (b && false) ≡ false

@@ -2,18 +2,18 @@
 use mathlib.Core.Path.{◌≡◌, refl, ap, ◌∙◌}
 use mathlib.Core.Bool.{Bool, true, false}
 use mathlib.Core.List.{List}
-use Prim.Native.Nat.{ℕ, zero, suc, ◌+◌, ◌*◌, ◌≤◌, ◌<◌}
+use Prim.Native.Nat.{ℕ, ◌+◌, ◌*◌, ◌≤◌, ◌<◌}
 use native.Mathlib.Omega.{arith}
 use borrow.Author.Tests.{lt-ltb, le-ltb, le-leb, ltb-true, ltb-false}
 use lib.Dec.{ltb}
 use lib.ListN.{length, get_or}
-use Rattle.gerg_coefficients.specs.declared.Answer.TheVariants.{Accepted}
 use Rattle.gerg_file.specs.Kinds as Kinds
 use Rattle.gerg_file.specs.Bytes.{byte, term_count}
 use Rattle.gerg_file.specs.File.{file_of}
 use Rattle.gerg_file.specs.Counts.{terms_of}
-use Rattle.gerg_file.specs.declared.File.{File}
-use Rattle.gerg_file.specs.declared.File.TheVariants.{Malformed, WellFormed}
+use Rattle.std.specs.Prelude.{Result, Ok, Err}
+use Rattle.gerg_refusals.specs.declared.Fault.{Fault}
+use Rattle.gerg_refusals.specs.declared.Refusal.{Refusal}
 use Rattle.gerg_file.specs.declared.Layout.{Layout}
 use Rattle.gerg_file.proofs.Laws.Laid.{laid_out, counts_are}
 use Rattle.gerg_tables.specs.Tables.{Shaped, kpol, kexp, m_numb, kpolij, kexpij}
@@ -23,11 +23,11 @@ use Rattle.gerg_tables.proofs.Faults.{sound_numbers}
 use Rattle.gerg_coefficients.specs.Answer.{judged, answer_as, answer_of, tables_as, tables_of}
 use Rattle.gerg_coefficients.proofs.Numbers.{count_number, function_byte}
 
-judged_accepted : (f length n : ℕ) → judged f length ≡ Accepted n → (f ≡ 0) × (n ≡ length)
-judged_accepted zero length n e = (refl, cc)
-judged_accepted (suc f) length n e = let z : ◌≡◌ {A = ℕ} 0 1 = cc in absurd (omega arith)
+judged_accepted : (checked : Result (Unit {0}) Fault) (length n : ℕ) → judged checked length ≡ Ok n → (checked ≡ Ok tt) × (n ≡ length)
+judged_accepted (Ok u) length n e = (refl, cc)
+judged_accepted (Err fault) length n e = cc
 
-module _ (s : List ℕ) (l : Layout) (e : file_of s ≡ WellFormed l) where
+module _ (s : List ℕ) (l : Layout) (e : file_of s ≡ Ok l) where
   -- the counts of a component are those of its record
   terms_shaped : (i : ℕ) → i < 21 → kpol (integers s l) i + kexp (integers s l) i ≤ 24
   unfolding terms_of
@@ -87,29 +87,29 @@ module _ (s : List ℕ) (l : Layout) (e : file_of s ≡ WellFormed l) where
   departures_shaped : (m : ℕ) → m < 10 → kpolij (integers s l) m + kexpij (integers s l) m ≤ 12
   departures_shaped m h = departures_as m h (ltb m l.count) refl
 
-  numbers_shaped : fault_of (doubles s l) (integers s l) l.count ≡ 0 → (i j : ℕ) → i < j → j < 21 → m_numb (integers s l) i j < 128
+  numbers_shaped : fault_of (doubles s l) (integers s l) l.count ≡ Ok tt → (i j : ℕ) → i < j → j < 21 → m_numb (integers s l) i j < 128
       → (0 < m_numb (integers s l) i j) × (m_numb (integers s l) i j ≤ 10)
   numbers_shaped f i j h g k =
       let r = sound_numbers (doubles s l) (integers s l) l.count f i j h g k in
       let t = (laid_out s l e).count_limit in
       (r.0, omega (arith, r.1, t))
 
-  pub well_formed_shaped : fault_of (doubles s l) (integers s l) l.count ≡ 0 → Shaped (loaded s l)
+  pub well_formed_shaped : fault_of (doubles s l) (integers s l) l.count ≡ Ok tt → Shaped (loaded s l)
   unfolding loaded
   well_formed_shaped f = record { terms = terms_shaped; departures = departures_shaped; numbers = numbers_shaped f }
 
-shaped_as : (s : List ℕ) (w : File) (n : ℕ) → file_of s ≡ w → answer_as s w ≡ Accepted n → Shaped (tables_as s w) × (n ≡ length s)
+shaped_as : (s : List ℕ) (w : Result Layout Refusal) (n : ℕ) → file_of s ≡ w → answer_as s w ≡ Ok n → Shaped (tables_as s w) × (n ≡ length s)
 unfolding answer_as tables_as
-shaped_as s (Malformed at) n e a = let z : ◌≡◌ {A = ℕ} 0 1 = cc in absurd (omega arith)
-shaped_as s (WellFormed l) n e a =
+shaped_as s (Err r) n e a = let z : ◌≡◌ {A = ℕ} 0 1 = cc in absurd (omega arith)
+shaped_as s (Ok l) n e a =
     let j = judged_accepted (fault_of (doubles s l) (integers s l) l.count) l.length n a in
     (well_formed_shaped s l e j.0, j.1 ∙ (laid_out s l e).length_is)
 
 -- an accepted file's tables are shaped, and its value is the file's length
-pub accepted_shaped : (s : List ℕ) (n : ℕ) → answer_of s ≡ Accepted n → Shaped (tables_of s)
+pub accepted_shaped : (s : List ℕ) (n : ℕ) → answer_of s ≡ Ok n → Shaped (tables_of s)
 unfolding answer_of tables_of
 accepted_shaped s n a = (shaped_as s (file_of s) n refl a).0
 
-pub accepted_length : (s : List ℕ) (n : ℕ) → answer_of s ≡ Accepted n → n ≡ length s
+pub accepted_length : (s : List ℕ) (n : ℕ) → answer_of s ≡ Ok n → n ≡ length s
 unfolding answer_of tables_of
 accepted_length s n a = (shaped_as s (file_of s) n refl a).1

@@ -9,73 +9,50 @@ ghost use Rattle.gerg_coefficients.specs.TableFile.{table_file_of, table_file};
 mod load;
 mod store;
 
-use gerg_file::{File, read_layout};
+use gerg_file::read_layout;
+use gerg_refusals::Refusal;
 use gerg_tables::{Tables, check};
 
-// What a coefficient file is answered with.
-#[derive(Clone, Copy)]
-pub enum Answer {
-    // the file's length
-    Accepted(usize),
-    // row 1: the offset of the first bad record, or of the first byte over
-    Refused(usize),
-    // row 2: the cause, 1 to 8
-    Faulty(u8),
-}
-
-// A file's answer and its tables, which are zeros where the file is `Refused`.
+// A file's answer, its length or why it is refused, and its tables, which are zeros where row 1 refuses it.
 #[derive(Clone, Copy)]
 pub struct TableFile {
-    pub answer: Answer,
+    pub answer: Result<usize, Refusal>,
     pub tables: Tables,
 }
 
-impl Answer {
-    // Document 01's number, 0 for an accepted file.
-    pub fn number(self) -> u64
-        ensures { result ≡ Answers.number_of self }
-    {
-        match self {
-            Answer::Accepted(_) => 0,
-            Answer::Refused(_) => 1,
-            Answer::Faulty(_) => 2,
-        }
-    }
-
-    // Document 01's value, the length for an accepted file.
-    pub fn value(self) -> u64
-        ensures { result ≡ Answers.value_of self }
-    {
-        match self {
-            Answer::Accepted(length) => length as u64,
-            Answer::Refused(at) => at as u64,
-            Answer::Faulty(cause) => cause as u64,
-        }
+// Document 01's number of an answer, 0 for an accepted file.
+pub fn number(answer: Result<usize, Refusal>) -> u64
+    ensures { result ≡ Answers.number_of answer }
+{
+    match answer {
+        Ok(_) => 0,
+        Err(refusal) => u64::from(refusal.number()),
     }
 }
 
-fn judge(fault: u8, length: usize) -> Answer
-    ensures { result ≡ Answers.judged fault length }
+// Document 01's value, the length for an accepted file.
+pub fn value(answer: Result<usize, Refusal>) -> u64
+    ensures { result ≡ Answers.value_of answer }
 {
-    if fault == 0 {
-        return Answer::Accepted(length);
+    match answer {
+        Ok(length) => length as u64,
+        Err(refusal) => refusal.value() as u64,
     }
-    Answer::Faulty(fault)
 }
 
 // The bytes of a coefficient file, checked and read into lent arrays of zeros, so that tables of 34 kB are not copied.
-pub fn read_tables_into(file: &[u8], doubles: &mut [f64; 4086], integers: &mut [u8; 1631]) -> Answer
+pub fn read_tables_into(
+    file: &[u8],
+    doubles: &mut [f64; 4086],
+    integers: &mut [u8; 1631],
+) -> Result<usize, Refusal>
     requires { (doubles.old ≡ replicate 4086 +0) × (integers.old ≡ replicate 1631 0) }
     ensures { table_file result doubles.new integers.new ≡ table_file_of file.now }
 {
-    match read_layout(file) {
-        File::Malformed(at) => Answer::Refused(at),
-        File::WellFormed(layout) => {
-            let finite = load::put_tables(file, layout, doubles, integers);
-            let fault = check::fault(doubles, integers, layout.count, finite);
-            judge(fault, layout.length)
-        }
-    }
+    let layout = read_layout(file)?;
+    let finite = load::put_tables(file, layout, doubles, integers);
+    check::fault(doubles, integers, layout.count, finite)?;
+    Ok(layout.length)
 }
 
 // The same with the tables in the answer.
@@ -96,7 +73,5 @@ pub fn gerg_tables_check(file: &[u8]) -> u64
     let mut doubles = [0.0; 4086];
     let mut integers = [0u8; 1631];
     let answer = read_tables_into(file, &mut doubles, &mut integers);
-    let number = answer.number();
-    let value = answer.value();
-    number * 4294967296 + value
+    number(answer) * 4294967296 + value(answer)
 }

@@ -5,16 +5,15 @@ ghost use Rattle.gerg_coefficients.specs.Load.{doubles_at, bytes_at, run_of};
 ghost use Rattle.gerg_coefficients.specs.Filling.{FiniteAt};
 
 use gerg_file::bytes::{double_inside, word_inside};
+use gerg_file::kinds::Kind;
 
 // n doubles that stand in a row, of whatever patterns, stored from `to` on.
 fn put_any_doubles(s: &[u8], at: usize, n: usize, to: usize, out: &mut [f64; 4086])
     requires { (at + 8 * n ≤ length s.now) × (to + n ≤ 4086) }
     ensures { out.new ≡ sets out.old to (doubles_at s.now at n) }
 {
-    let mut k: usize = 0;
-    while k < n {
+    for k in 0..n {
         out[to + k] = double_inside(s, at + 8 * k);
-        k += 1;
     }
 }
 
@@ -24,15 +23,13 @@ fn put_doubles(s: &[u8], at: usize, n: usize, to: usize, out: &mut [f64; 4086]) 
     requires { (at + 8 * n ≤ length s.now) × (to + n ≤ 4086) }
     ensures { (out.new ≡ sets out.old to (doubles_at s.now at n)) × (result ≡ true → FiniteAt s.now at n) }
 {
-    let mut k: usize = 0;
-    while k < n {
+    for k in 0..n {
         let w = word_inside(s, at + 8 * k);
         if 0xffe0_0000_0000_0000 <= w % 0x8000_0000_0000_0000 * 2 {
             put_any_doubles(s, at + 8 * k, n - k, to + k, out);
             return false;
         }
         out[to + k] = f64::from_bits(w);
-        k += 1;
     }
     true
 }
@@ -42,55 +39,50 @@ fn put_bytes(s: &[u8], at: usize, n: usize, to: usize, out: &mut [u8; 1631])
     requires { (at + n ≤ length s.now) × (to + n ≤ 1631) }
     ensures { out.new ≡ sets out.old to (bytes_at s.now at n) }
 {
-    let mut k: usize = 0;
-    while k < n {
-        out[to + k] = s[at + k];
-        k += 1;
-    }
+    out[to..to + n].copy_from_slice(&s[at..at + n]);
 }
 
-// `per` doubles of each of `count` records of `size` bytes, of which the first begins at `from` and has them `offset` bytes into it, stored from `to` on. True
-// only where all are finite.
+// The first `per` doubles of each of `count` records of one kind, of which the first begins at `from`, stored from `to` on. True only where all are finite.
 pub fn put_records(
     s: &[u8],
+    kind: Kind,
     from: usize,
-    offset: usize,
-    size: usize,
     count: usize,
     per: usize,
     to: usize,
     out: &mut [f64; 4086],
 ) -> bool
-    requires { (offset + 8 * per ≤ size) × ((from + size * count ≤ length s.now) × (to + per * count ≤ 4086)) }
-    ensures { (out.new ≡ sets out.old to (run_of (doubles_at s.now) (from + offset) size count per)) × (result ≡ true → (k : ℕ) → k < count → FiniteAt s.now (from + offset + size * k) per) }
+    requires { (kind.doubles + 8 * per ≤ kind.size) × ((from + kind.size * count ≤ length s.now) × (to + per * count ≤ 4086)) }
+    ensures { (out.new ≡ sets out.old to (run_of (doubles_at s.now) (from + kind.doubles) kind.size count per)) × (result ≡ true → (k : ℕ) → k < count → FiniteAt s.now (from + kind.doubles + kind.size * k) per) }
 {
     let mut all = true;
-    let mut k: usize = 0;
-    while k < count {
-        let finite = put_doubles(s, from + offset + size * k, per, to + per * k, out);
+    for k in 0..count {
+        let finite = put_doubles(
+            s,
+            from + kind.doubles + kind.size * k,
+            per,
+            to + per * k,
+            out,
+        );
         all = all & finite;
-        k += 1;
     }
     all
 }
 
-// The same for bytes.
+// The same for bytes. The two loops are one line each, which differs: one loop over a closure would have to be lent the array at each turn, to no gain.
 pub fn put_byte_records(
     s: &[u8],
+    kind: Kind,
     from: usize,
-    offset: usize,
-    size: usize,
     count: usize,
     per: usize,
     to: usize,
     out: &mut [u8; 1631],
 )
-    requires { (offset + per ≤ size) × ((from + size * count ≤ length s.now) × (to + per * count ≤ 1631)) }
-    ensures { out.new ≡ sets out.old to (run_of (bytes_at s.now) (from + offset) size count per) }
+    requires { (kind.bytes + per ≤ kind.size) × ((from + kind.size * count ≤ length s.now) × (to + per * count ≤ 1631)) }
+    ensures { out.new ≡ sets out.old to (run_of (bytes_at s.now) (from + kind.bytes) kind.size count per) }
 {
-    let mut k: usize = 0;
-    while k < count {
-        put_bytes(s, from + offset + size * k, per, to + per * k, out);
-        k += 1;
+    for k in 0..count {
+        put_bytes(s, from + kind.bytes + kind.size * k, per, to + per * k, out);
     }
 }

@@ -2,15 +2,8 @@
 #![tactic(auto)]
 
 pub mod composition;
+pub mod point;
 pub mod powers;
-
-// The reduced density, and the inverse reduced temperature with its logarithm.
-#[derive(Clone, Copy)]
-pub struct Point {
-    pub delta: f64,
-    pub tau: f64,
-    pub ln_tau: f64,
-}
 
 // The places of two components, from 0, and their fractions.
 #[derive(Clone, Copy)]

@@ -5,7 +5,6 @@ use mathlib.Core.Bool.{Bool, true, false, ◌||◌}
 use mathlib.Core.List.{Memᴰ}
 use Prim.Native.Nat.{ℕ, ◌^◌, ◌≤◌, ◌<◌}
 use native.Mathlib.Nat.{lt_of_le_of_lt}
-use native.Mathlib.Omega.{arith}
 use borrow.Author.Tests.{eqb-false}
 use lib.Dec.{T, eqb, eqb→eq, lit≤}
 use lib.Ieee.{Float, le}
@@ -14,30 +13,29 @@ use Rattle.numerics.specs.Double.{pick}
 use Rattle.gerg_tables.specs.declared.Tables.{Tables}
 use Rattle.gerg_reducing.specs.declared.GergModel.{GergModel}
 use Rattle.gerg.specs.declared.Range.{Range}
-use Rattle.gerg.specs.declared.evaluate.EvaluateAnswer.{EvaluateAnswer}
 use Rattle.gerg.specs.Evaluate.{evaluate_of}
 use Rattle.gerg.proofs.Laws.Answered.{answered}
-use Rattle.gerg_search.proofs.Laws.Differ.{differ}
 use Rattle.gerg_search.specs.Checks.{options_refused, target_refused}
 use Rattle.gerg_search.specs.Point.{within_of}
 use Rattle.gerg_search.specs.States.{Doubles}
 use Rattle.gerg_density.specs.Density.{verdict_of, search_of, density_trials, residual_of, beyond_of, checked_of, finished_of, density_of}
-use Rattle.gerg_density.specs.DensityNumbers.{number_of, value_of}
+use Rattle.gerg_refusals.specs.Answer.{number_of, value_of}
 use Rattle.gerg_search.specs.States.{state_after}
 use Rattle.gerg_density.specs.Promised.{Tried, Collapsed, Exhausted, Limited}
 use Rattle.gerg_density.specs.Arrived.{Arrived}
-use Rattle.gerg_search.specs.declared.Bracket.{Bracket}
+use Rattle.gerg_search.specs.declared.Found.{Found}
 use Rattle.gerg_search.specs.declared.Options.{Options}
-use Rattle.gerg_search.specs.declared.Sample.TheVariants.{Residual}
-use Rattle.gerg_search.specs.declared.Outcome.{Outcome}
-use Rattle.gerg_search.specs.declared.Outcome.TheVariants.{Found, Failed}
+use Rattle.gerg_search.specs.Sample.{Outcome}
 use Rattle.gerg_density.specs.declared.DensityResult.{DensityResult}
-use Rattle.gerg_density.specs.declared.DensityAnswer.TheVariants.{Accepted, Refused}
 use Rattle.gerg_search.proofs.Laws.Start.{target_positive}
 use Rattle.gerg_search.proofs.Laws.Verdicts.{Fair, Seen}
 use Rattle.gerg_density.proofs.Laws.Verdict.{fair, Worked, worked}
 use Rattle.gerg_density.proofs.Laws.Numbers as numbers
 use Rattle.gerg_search.proofs.Laws.Outcomes as any
+use Rattle.std.specs.Prelude.{Result, Ok, Err}
+use Rattle.gerg.specs.declared.GergState.{GergState}
+use Rattle.gerg_refusals.specs.declared.Refusal.{Refusal}
+use Rattle.gerg_refusals.specs.declared.Refusal.TheVariants as refusal
 
 module _ (t : Tables) (m : GergModel) (range : Range) (temperature target : Float) (o : Options) (doubles : Doubles o) where
   fairly : target_refused range.pressure_high target ≡ false → Fair (verdict_of t m range temperature target)
@@ -56,7 +54,7 @@ module _ (t : Tables) (m : GergModel) (range : Range) (temperature target : Floa
       (numbers.own_refusal t m range temperature target o 19 (lit≤ tt) e)
 
   -- "Any count that is reported is the list's length": of an accepted density, in rows 18 and 19
-  found_count : (x : Float) (k : ℕ) (b : Bracket) → search_of t m range temperature target o ≡ Found x k b → k ≡ length (density_trials t m range temperature target o)
+  found_count : (f : Found) → search_of t m range temperature target o ≡ Ok f → f.trials ≡ length (density_trials t m range temperature target o)
   unfolding search_of density_trials
   found_count = any.found_count range.pressure_high target o (verdict_of t m range temperature target) doubles fairly
 
@@ -80,7 +78,7 @@ module _ (t : Tables) (m : GergModel) (range : Range) (temperature target : Floa
       let k = value_of (density_of t m range temperature target o) in
       let s = numbers.own_refusal t m range temperature target o 19 (lit≤ tt) e in
       let f = any.limit_reached range.pressure_high target o v doubles fairly k s in
-      let p = (any.failed range.pressure_high target o v doubles fairly 19 k s (omega arith) (omega arith)).0.passed in
+      let p = (any.failed range.pressure_high target o v doubles fairly (refusal.LimitReached k) s (λ q. cc) (λ q. cc)).0.passed in
       record {
         trials = f.trials;
         residual = f.f;
@@ -100,8 +98,8 @@ module _ (t : Tables) (m : GergModel) (range : Range) (temperature target : Floa
       let k = value_of (density_of t m range temperature target o) in
       let s = numbers.own_refusal t m range temperature target o 18 (lit≤ tt) e in
       let n = any.collapsed h target o v doubles fairly k s in
-      let q = (any.failed h target o v doubles fairly 18 k s (omega arith) (omega arith)).0 in
-      let r = any.low_answered h target o v doubles fairly 18 k (lit≤ tt) s in
+      let q = (any.failed h target o v doubles fairly (refusal.Collapsed k) s (λ q. cc) (λ q. cc)).0 in
+      let r = any.low_answered h target o v doubles fairly (refusal.Collapsed k) (lit≤ tt) s in
       let p = target_positive h target q.reachable in
       let b = worked t m range temperature target p n.low n.below.f n.below.derivative n.below.is in
       let a = worked t m range temperature target p n.high n.above.f n.above.derivative n.above.is in
@@ -118,7 +116,7 @@ module _ (t : Tables) (m : GergModel) (range : Range) (temperature target : Floa
         above = a.scaled.signs.above n.over;
       }
     where
-      tried : (x f : Float) → ((g : Float) × (d : Float) × (verdict_of t m range temperature target o.bracket.lo ≡ Residual g d)) → (options_refused o || target_refused range.pressure_high target) ≡ false → Worked t m range temperature target x f
+      tried : (x f : Float) → ((g : Float) × (d : Float) × (verdict_of t m range temperature target o.bracket.lo ≡ Ok (g, d))) → (options_refused o || target_refused range.pressure_high target) ≡ false → Worked t m range temperature target x f
           → Seen o (density_trials t m range temperature target o) x → Tried t m range temperature target o x
       tried x f r p w (inl e) = inl (record { begun = p; end = inl e; pressure = w.pressure; computed = w.computed })
       tried x f r p w (inr (inl e)) = inl (record { begun = p; end = inr (e, r); pressure = w.pressure; computed = w.computed })
@@ -137,31 +135,31 @@ module _ (t : Tables) (m : GergModel) (range : Range) (temperature target : Floa
   unfolding density_trials
   listed e = any.listed range.pressure_high target o (verdict_of t m range temperature target) doubles fairly e.steps e.trial.begun e.trial.interior
 
-  in_bracket : (x : Float) (k : ℕ) (b : Bracket) → search_of t m range temperature target o ≡ Found x k b → T (le o.bracket.lo x) × T (le x o.bracket.hi)
+  in_bracket : (f : Found) → search_of t m range temperature target o ≡ Ok f → T (le o.bracket.lo f.density) × T (le f.density o.bracket.hi)
   unfolding search_of
   in_bracket = any.in_bracket range.pressure_high target o (verdict_of t m range temperature target) doubles fairly
 
   -- "An accepted density lies in the given bracket, ends allowed; its state's pressure is in (0, 35 MPa] and meets the tolerance as row 17 tests it; its stiffness and cv are positive";
   -- the pressure's upper end as the range has it
-  pub accepted : (r : DensityResult) → density_of t m range temperature target o ≡ Accepted r → Arrived t m range temperature target o r
+  pub accepted : (r : DensityResult) → density_of t m range temperature target o ≡ Ok r → Arrived t m range temperature target o r
   unfolding density_of finished_of checked_of
   accepted r e = go (search_of t m range temperature target o) refl e
     where
-      state : (x : Float) (i : ℕ) (b : Bracket) (a : EvaluateAnswer) → search_of t m range temperature target o ≡ Found x i b → evaluate_of t m range temperature x ≡ a → checked_of target o i b a ≡ Accepted r → Arrived t m range temperature target o r
-      state x i b (EvaluateAnswer.Refused j) s q e = differ (cc)
-      state x i b (EvaluateAnswer.State z) s q e = tested (beyond_of o.tolerance (residual_of target z)) refl e
+      state : (f : Found) (a : Result GergState Refusal) → search_of t m range temperature target o ≡ Ok f → evaluate_of t m range temperature f.density ≡ a → checked_of target o f.trials f.bracket a ≡ Ok r → Arrived t m range temperature target o r
+      state f (Err j) s q e = cc
+      state f (Ok z) s q e = tested (beyond_of o.tolerance (residual_of target z)) refl e
         where
           d : DensityResult
-          d = record { state = z; residual = residual_of target z; trials = i; first = o.bracket; last = b }
+          d = record { state = z; residual = residual_of target z; trials = f.trials; first = o.bracket; last = f.bracket }
 
-          tested : (c : Bool) → beyond_of o.tolerance (residual_of target z) ≡ c → pick c (Refused 17 0) (Accepted d) ≡ Accepted r → Arrived t m range temperature target o r
-          tested true w e = differ (cc)
+          tested : (c : Bool) → beyond_of o.tolerance (residual_of target z) ≡ c → pick c (Err refusal.PressureCheck) (Ok d) ≡ Ok r → Arrived t m range temperature target o r
+          tested true w e = cc
           tested false w e =
-              let p = in_bracket x i b s in
-              let a = answered t m range temperature x z q in
+              let p = in_bracket f s in
+              let a = answered t m range temperature f.density z q in
               let same : d ≡ r = cc in
               subst (λ (d : DensityResult). Arrived t m range temperature target o d) same (record {
-                density = x;
+                density = f.density;
                 from = p.0;
                 to = p.1;
                 state = q;
@@ -172,15 +170,15 @@ module _ (t : Tables) (m : GergModel) (range : Range) (temperature target : Floa
                 cv = a.cv;
                 check = w;
                 residual = refl;
-                trials = found_count x i b s;
+                trials = found_count f s;
                 first = refl;
               })
 
-      go : (w : Outcome) → search_of t m range temperature target o ≡ w → finished_of t m range temperature target o w ≡ Accepted r → Arrived t m range temperature target o r
-      go (Failed j i) s e = differ (cc)
-      go (Found x i b) s e = state x i b (evaluate_of t m range temperature x) s refl e
+      go : (w : Outcome) → search_of t m range temperature target o ≡ w → finished_of t m range temperature target o w ≡ Ok r → Arrived t m range temperature target o r
+      go (Err j) s e = cc
+      go (Ok f) s e = state f (evaluate_of t m range temperature f.density) s refl e
 
-  pub accepted_count : (r : DensityResult) → density_of t m range temperature target o ≡ Accepted r → r.trials ≡ length (density_trials t m range temperature target o)
+  pub accepted_count : (r : DensityResult) → density_of t m range temperature target o ≡ Ok r → r.trials ≡ length (density_trials t m range temperature target o)
   accepted_count r e = (accepted r e).trials
 
   -- the rows of a density search end with 19

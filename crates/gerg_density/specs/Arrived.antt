@@ -1,12 +1,11 @@
 -- What holds of an accepted density.
-use Rattle.std.specs.Prelude.{◌≡◌, false, T, Float, length}
+use Rattle.std.specs.Prelude.{◌≡◌, false, T, Float, length, Ok}
 use Rattle.std.specs.Float.Ieee.{lt, le}
 use Rattle.std.specs.Float.Ieee.Positive.{positive}
 use Rattle.numerics.specs.Double.{+0}
 use Rattle.gerg_tables.specs.declared.Tables.{Tables}
 use Rattle.gerg_reducing.specs.declared.GergModel.{GergModel}
 use Rattle.gerg.specs.declared.Range.{Range}
-use Rattle.gerg.specs.declared.evaluate.EvaluateAnswer.{EvaluateAnswer}
 use Rattle.gerg.specs.Evaluate.{evaluate_of}
 use Rattle.gerg_density.specs.Density.{density_trials, residual_of, beyond_of}
 use Rattle.gerg_search.specs.declared.Options.{Options}
@@ -19,7 +18,7 @@ module _ (t : Tables) (m : GergModel) (range : Range) (temperature target : Floa
     pub density : Float
     pub from : T (le o.bracket.lo density)
     pub to : T (le density o.bracket.hi)
-    pub state : evaluate_of t m range temperature density ≡ EvaluateAnswer.State r.state
+    pub state : evaluate_of t m range temperature density ≡ Ok r.state
     pub reported : r.state.molar_density ≡ density
     pub pressure_above : T (lt +0 r.state.pressure_pa)
     pub pressure_at_most : T (le r.state.pressure_pa range.pressure_high)

@@ -1,32 +1,28 @@
 -- The density search of a mixture: the verdict at a density, the search, and the state at an accepted density.
-use Rattle.std.specs.Prelude.{ℕ, Bool, List, Float}
+use Rattle.std.specs.Prelude.{ℕ, Bool, List, Float, Result, Ok, Err}
 use Rattle.std.specs.Float.Ieee.{lt, neg}
 use Rattle.numerics.specs.Double.{◌⊖◌, ◌⊘◌, +0, pick}
 use Rattle.gerg_tables.specs.declared.Tables.{Tables}
 use Rattle.gerg_reducing.specs.declared.GergModel.{GergModel}
 use Rattle.gerg.specs.declared.GergState.{GergState}
 use Rattle.gerg.specs.declared.Range.{Range}
-use Rattle.gerg.specs.declared.helmholtz.HelmholtzAnswer.{HelmholtzAnswer}
-use Rattle.gerg.specs.declared.evaluate.EvaluateAnswer.{EvaluateAnswer}
 use Rattle.gerg.specs.Helmholtz.{helmholtz_of}
 use Rattle.gerg.specs.Evaluate.{evaluate_of}
 use Rattle.gerg_density.specs.Trial.{trial_pressure, trial_stiffness, scale_of, sample_of}
 use Rattle.gerg_search.specs.Run.{outcome_of, trials_of}
 use Rattle.gerg_search.specs.declared.Bracket.{Bracket}
 use Rattle.gerg_search.specs.declared.Options.{Options}
-use Rattle.gerg_search.specs.declared.Sample.{Sample}
-use Rattle.gerg_search.specs.declared.Sample.TheVariants.{Stopped}
-use Rattle.gerg_search.specs.declared.Outcome.{Outcome}
-use Rattle.gerg_search.specs.declared.Outcome.TheVariants.{Found, Failed}
-use Rattle.gerg_density.specs.declared.DensityAnswer.{DensityAnswer}
-use Rattle.gerg_density.specs.declared.DensityAnswer.TheVariants.{Accepted, Refused}
-use Rattle.gerg.specs.HelmholtzNumbers as helmholtz
-use Rattle.gerg.specs.EvaluateNumbers as evaluate
+use Rattle.gerg_search.specs.Sample.{Sample}
+use Rattle.gerg_search.specs.Sample.{Outcome}
+use Rattle.gerg_density.specs.declared.DensityResult.{DensityResult}
+use Rattle.gerg_derivatives.specs.declared.derivatives.GergDerivatives.{GergDerivatives}
+use Rattle.gerg_refusals.specs.declared.Refusal.{Refusal}
+use Rattle.gerg_refusals.specs.declared.Refusal.TheVariants as refusal
 
 -- the trial at a density: the derivatives' refusal, or what the trial makes of them
-unfoldable pub trial_of : Float → Float → Float → HelmholtzAnswer → Sample
-trial_of temperature target rho (HelmholtzAnswer.Derivatives a) = sample_of target (trial_pressure temperature rho a.ar_d) (trial_stiffness temperature a.ar_d a.ar_dd)
-trial_of temperature target rho (HelmholtzAnswer.Refused n) = Stopped (helmholtz.number_of (HelmholtzAnswer.Refused n))
+unfoldable pub trial_of : Float → Float → Float → Result GergDerivatives Refusal → Sample
+trial_of temperature target rho (Ok a) = sample_of target (trial_pressure temperature rho a.ar_d) (trial_stiffness temperature a.ar_d a.ar_dd)
+trial_of temperature target rho (Err r) = Err r
 
 unfoldable pub verdict_of : Tables → GergModel → Range → Float → Float → Float → Sample
 verdict_of t m range temperature target rho = trial_of temperature target rho (helmholtz_of t m range temperature rho)
@@ -47,15 +43,15 @@ unfoldable pub beyond_of : Float → Float → Bool
 beyond_of tolerance f = pick (lt f +0) (lt tolerance (neg f)) (lt tolerance f)
 
 -- "final pressure check" (17)
-unfoldable pub checked_of : Float → Options → ℕ → Bracket → EvaluateAnswer → DensityAnswer
-checked_of target o trials last (EvaluateAnswer.State s) =
-    pick (beyond_of o.tolerance (residual_of target s)) (Refused 17 0)
-    (Accepted (record { state = s; residual = residual_of target s; trials = trials; first = o.bracket; last = last }))
-checked_of target o trials last (EvaluateAnswer.Refused n) = Refused (evaluate.number_of (EvaluateAnswer.Refused n)) (evaluate.value_of (EvaluateAnswer.Refused n))
+unfoldable pub checked_of : Float → Options → ℕ → Bracket → Result GergState Refusal → Result DensityResult Refusal
+checked_of target o trials last (Ok s) =
+    pick (beyond_of o.tolerance (residual_of target s)) (Err refusal.PressureCheck)
+    (Ok (record { state = s; residual = residual_of target s; trials = trials; first = o.bracket; last = last }))
+checked_of target o trials last (Err r) = Err r
 
-unfoldable pub finished_of : Tables → GergModel → Range → Float → Float → Options → Outcome → DensityAnswer
-finished_of t m range temperature target o (Found x trials last) = checked_of target o trials last (evaluate_of t m range temperature x)
-finished_of t m range temperature target o (Failed n value) = Refused n value
+unfoldable pub finished_of : Tables → GergModel → Range → Float → Float → Options → Outcome → Result DensityResult Refusal
+finished_of t m range temperature target o (Ok f) = checked_of target o f.trials f.bracket (evaluate_of t m range temperature f.density)
+finished_of t m range temperature target o (Err r) = Err r
 
-unfoldable pub density_of : Tables → GergModel → Range → Float → Float → Options → DensityAnswer
+unfoldable pub density_of : Tables → GergModel → Range → Float → Float → Options → Result DensityResult Refusal
 density_of t m range temperature target o = finished_of t m range temperature target o (search_of t m range temperature target o)

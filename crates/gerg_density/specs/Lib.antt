@@ -2,7 +2,6 @@
 pub mod Trial
 pub mod Density
 pub mod Running
-pub mod DensityNumbers
 pub mod Promised
 pub mod Arrived
 pub mod Cases

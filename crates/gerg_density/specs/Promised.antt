@@ -1,5 +1,5 @@
 -- The words of demand 3 about a density search: what its promises (proofs/Promises) say of an accepted density and of rows 18 and 19.
-use Rattle.std.specs.Prelude.{◌≡◌, ◌⊎◌, Bool, false, ◌||◌, ℕ, T, Float, length}
+use Rattle.std.specs.Prelude.{◌≡◌, ◌⊎◌, Bool, false, ◌||◌, ℕ, T, Float, length, Ok}
 use mathlib.Core.List.{Memᴰ}
 use Rattle.std.specs.Float.{binary64}
 use Rattle.std.specs.Float.Ieee.{fits, lt}
@@ -8,7 +8,6 @@ use Rattle.gerg_tables.specs.declared.Tables.{Tables}
 use Rattle.gerg_reducing.specs.declared.GergModel.{GergModel}
 use Rattle.gerg_derivatives.specs.declared.derivatives.GergDerivatives.{GergDerivatives}
 use Rattle.gerg.specs.declared.Range.{Range}
-use Rattle.gerg.specs.declared.helmholtz.HelmholtzAnswer.{HelmholtzAnswer}
 use Rattle.gerg.specs.Helmholtz.{helmholtz_of}
 use Rattle.gerg_search.specs.States.{NoneBetween, state_after, left_by}
 use Rattle.gerg_search.specs.Checks.{options_refused, target_refused}
@@ -17,14 +16,13 @@ use Rattle.gerg_density.specs.Trial.{trial_pressure, scale_of}
 use Rattle.gerg_search.specs.Run.{last_of}
 use Rattle.gerg_density.specs.Density.{verdict_of, density_trials}
 use Rattle.gerg_search.specs.declared.Options.{Options}
-use Rattle.gerg_search.specs.declared.Sample.TheVariants.{Residual}
 use Rattle.gerg_search.specs.declared.Stage.TheVariants.{Interior}
 use Rattle.gerg_search.specs.declared.Search.{Search}
 
 -- "The computed pressure of a tried double, an end too, is by the trial's formula": p is that of the density x
 pub record Computed (t : Tables) (m : GergModel) (range : Range) (temperature x p : Float) : Type 0 where
   pub derivatives : GergDerivatives
-  pub answered : helmholtz_of t m range temperature x ≡ HelmholtzAnswer.Derivatives derivatives
+  pub answered : helmholtz_of t m range temperature x ≡ Ok derivatives
   pub formula : p ≡ trial_pressure temperature x derivatives.ar_d
 
 -- "the double is within the tolerance when the Rust's test at a trial says so of that pressure"
@@ -35,7 +33,7 @@ module _ (t : Tables) (m : GergModel) (range : Range) (temperature target : Floa
   -- "an end at which the search worked out a pressure": past rows 13 and 14 the low end, and the high one where the trial at the low end did not refuse
   pub record WorkedOut (x : Float) : Type 0 where
     pub begun : (options_refused o || target_refused range.pressure_high target) ≡ false
-    pub end : (x ≡ o.bracket.lo) ⊎ ((x ≡ o.bracket.hi) × ((f : Float) × (d : Float) × (verdict_of t m range temperature target o.bracket.lo ≡ Residual f d)))
+    pub end : (x ≡ o.bracket.lo) ⊎ ((x ≡ o.bracket.hi) × ((f : Float) × (d : Float) × (verdict_of t m range temperature target o.bracket.lo ≡ Ok (f, d))))
     pub pressure : Float
     pub computed : Computed t m range temperature x pressure
 
@@ -68,7 +66,7 @@ module _ (t : Tables) (m : GergModel) (range : Range) (temperature target : Floa
     pub begun : (options_refused o || target_refused range.pressure_high target) ≡ false
     pub interior : s.stage ≡ Interior
     pub derivative : Float
-    pub verdict : verdict_of t m range temperature target s.density ≡ Residual f derivative
+    pub verdict : verdict_of t m range temperature target s.density ≡ Ok (f, derivative)
     pub outside : within_of o.tolerance f ≡ false
 
   -- such a trial, after so many steps, and "no double is then left between the ends"

@@ -7,7 +7,7 @@ use Rattle.gerg_search.specs.States.{Doubles}
 use Rattle.gerg_search.specs.Checks.{options_refused, target_refused}
 use Rattle.gerg_search.specs.Run.{searched, last_of, answer_of, reported}
 use Rattle.gerg_search.specs.declared.Options.{Options}
-use Rattle.gerg_search.specs.declared.Outcome.{Outcome}
+use Rattle.gerg_search.specs.Sample.{Outcome}
 use Rattle.gerg_density.specs.Density.{verdict_of}
 
 -- past rows 13 and 14, of doubles and a machine's number

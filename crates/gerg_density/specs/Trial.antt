@@ -1,11 +1,11 @@
 -- The trial of a density: its pressure and stiffness from the derivatives there, its tests, and its verdict.
-use Rattle.std.specs.Prelude.{not, ◌||◌, Float}
+use Rattle.std.specs.Prelude.{not, ◌||◌, Float, Ok, Err}
 use Rattle.std.specs.Float.Ieee.{lt, le}
 use Rattle.std.specs.Float.Ieee.Scale.{finite}
 use Rattle.numerics.specs.Double.{◌⊕◌, ◌⊖◌, ◌⊗◌, ◌⊘◌, +0, one, two, pick}
 use Rattle.gerg.specs.Evaluate.{gas_constant}
-use Rattle.gerg_search.specs.declared.Sample.{Sample}
-use Rattle.gerg_search.specs.declared.Sample.TheVariants.{Residual, Stopped}
+use Rattle.gerg_search.specs.Sample.{Sample}
+use Rattle.gerg_refusals.specs.declared.Refusal.TheVariants as refusal
 
 -- "a trial is ρ × (R × T) × (1 + ar_d)"
 unfoldable pub trial_pressure : Float → Float → Float → Float
@@ -21,5 +21,5 @@ scale_of target = pick (lt target one) one target
 -- "a density trial's pressure or stiffness nonfinite" (12), then "trial stiffness ≤ 0" (15), before the tolerance is looked at
 unfoldable pub sample_of : Float → Float → Float → Sample
 sample_of target p derivative =
-    pick (not (finite p) || not (finite derivative)) (Stopped 12)
-    (pick (le derivative +0) (Stopped 15) (Residual ((p ⊖ target) ⊘ scale_of target) (derivative ⊘ scale_of target)))
+    pick (not (finite p) || not (finite derivative)) (Err refusal.NotFinite)
+    (pick (le derivative +0) (Err refusal.TrialUnstable) (Ok ((p ⊖ target) ⊘ scale_of target, derivative ⊘ scale_of target)))

@@ -17,10 +17,3 @@ pub struct DensityResult {
     pub first: Bracket,
     pub last: Bracket,
 }
-
-// A refusal has document 01's number and value.
-#[derive(Clone, Copy)]
-pub enum DensityAnswer {
-    Accepted(DensityResult),
-    Refused { number: u8, value: usize },
-}

@@ -1,9 +1,11 @@
 // The trial of a density, from the derivatives of the Helmholtz energy there.
+#![tactic(auto, unfolding(crate::specs::Trial::trial_pressure, crate::specs::Trial::trial_stiffness, crate::specs::Trial::scale_of, crate::specs::Trial::sample_of))]
 
 ghost use Rattle.std.specs.Prelude.{◌≡◌};
 ghost use Rattle.gerg_density.specs.Trial.{trial_pressure, trial_stiffness, scale_of, sample_of};
 
 use gerg::evaluate::GERG_GAS_CONSTANT;
+use gerg_refusals::Refusal;
 use gerg_search::Sample;
 use gerg_tables::numbers::is_finite;
 
@@ -34,12 +36,12 @@ pub fn sample(target: f64, p: f64, derivative: f64) -> Sample
     ensures { result ≡ sample_of target p derivative }
 {
     if !is_finite(p) | !is_finite(derivative) {
-        return Sample::Stopped(12);
+        return Err(Refusal::NotFinite);
     }
     let s = scale(target);
     let f = (p - target) / s;
     if derivative <= 0.0 {
-        return Sample::Stopped(15);
+        return Err(Refusal::TrialUnstable);
     }
-    Sample::Residual(f, derivative / s)
+    Ok((f, derivative / s))
 }

@@ -1,3 +1,4 @@
--- The powers of small exponents, and the case of document 01 on `term`.
+-- The powers of small exponents, the zeros where sums begin, and the case of document 01 on `term`.
 pub mod Powers
 pub mod Cases
+pub mod Zero

@@ -1,12 +1,10 @@
 -- What the terms at one density share: powers of delta, dampings and their exponentials for the exponents 0 to 7, which are the ones of the published file.
-use Rattle.std.specs.Prelude.{List, ◌≡◌, ℕ, ◌-◌, ltb, Float}
+use Rattle.std.specs.Prelude.{List, ℕ, ◌-◌, ltb, Float}
 use Rattle.std.specs.Float.Ieee.{neg}
 use Rattle.numerics.specs.Double.{pick}
 use Rattle.numerics.specs.Fill.{tabulate}
 use Rattle.elementary_exp.specs.Exp.{exp_of}
-use Rattle.elementary_ln.specs.Ln.{ln_of}
 use Rattle.elementary.specs.Power.{powf_of, signed_double_of}
-use Rattle.gerg_derivatives.specs.declared.Point.{Point}
 use Rattle.gerg_derivatives.specs.Parts.{damping_of}
 
 -- cell c: the power for an exponent c below 8, the damping for c - 8, its exponential for c - 16
@@ -17,8 +15,3 @@ power_cell delta c =
 
 unfoldable pub powers_of : Float → List Float
 powers_of delta = tabulate (power_cell delta) 24
-
--- the powers and the logarithm of delta are those of the point
-pub record Worked (point : Point) (small : List Float) : Type 0 where
-  pub powers : small ≡ powers_of point.delta
-  pub logarithm : point.ln_delta ≡ ln_of point.delta

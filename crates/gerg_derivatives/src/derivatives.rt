@@ -1,9 +1,11 @@
 // The nine scaled derivatives of the Helmholtz energy.
+#![tactic(auto, unfolding(crate::specs::Derivatives::term_of))]
+
 ghost use Rattle.std.specs.Prelude.{◌≡◌};
 ghost use Rattle.gerg_derivatives.specs.Derivatives.{term_of};
 
 // Dimensionless Helmholtz derivatives scaled by powers of delta and tau; d and t denote differentiation by delta and tau.
-#[derive(Clone, Copy)]
+#[derive(Clone, Copy, Default)]
 pub struct GergDerivatives {
     pub ar: f64,
     pub ar_d: f64,
@@ -22,12 +24,12 @@ impl GergDerivatives {
     pub fn term(mut self, value: f64, t: f64, slope: f64, curvature: f64) -> Self
         ensures { result ≡ term_of self value t slope curvature }
     {
-        self.ar = self.ar + value;
-        self.ar_d = self.ar_d + value * slope;
-        self.ar_dd = self.ar_dd + value * (slope * slope - slope + curvature);
-        self.ar_t = self.ar_t + value * t;
-        self.ar_tt = self.ar_tt + value * t * (t - 1.0);
-        self.ar_dt = self.ar_dt + value * t * slope;
+        self.ar += value;
+        self.ar_d += value * slope;
+        self.ar_dd += value * (slope * slope - slope + curvature);
+        self.ar_t += value * t;
+        self.ar_tt += value * t * (t - 1.0);
+        self.ar_dt += value * t * slope;
         self
     }
 }

@@ -1,4 +1,5 @@
 // What a term or a part of the ideal gas adds to the nine derivatives, its powers worked out.
+#![tactic(auto, unfolding(crate::specs::Parts::damped_term, crate::specs::Parts::ideal_added, crate::specs::Parts::ideal_taken, crate::specs::Parts::departed_term))]
 
 ghost use Rattle.std.specs.Prelude.{◌≡◌, ◌+◌, ◌*◌};
 ghost use Rattle.gerg_derivatives.specs.Parts as parts;
@@ -55,22 +56,25 @@ pub fn damped_term(a: GergDerivatives, p: Damped) -> GergDerivatives
     a.term(v, p.t, p.d - p.q * p.damping, -(p.q * p.q) * p.damping)
 }
 
+// Two functions: they are two signs apart, and an operation that is handed in makes neither shorter.
 pub fn added(a: GergDerivatives, value: f64, slope: f64, curvature: f64) -> GergDerivatives
     ensures { result ≡ parts.ideal_added value slope curvature a }
 {
-    let mut sum = a;
-    sum.a0 = sum.a0 + value;
-    sum.a0_t = sum.a0_t + slope;
-    sum.a0_tt = sum.a0_tt - curvature;
-    sum
+    GergDerivatives {
+        a0: a.a0 + value,
+        a0_t: a.a0_t + slope,
+        a0_tt: a.a0_tt - curvature,
+        ..a
+    }
 }
 
 pub fn taken(a: GergDerivatives, value: f64, slope: f64, curvature: f64) -> GergDerivatives
     ensures { result ≡ parts.ideal_taken value slope curvature a }
 {
-    let mut sum = a;
-    sum.a0 = sum.a0 - value;
-    sum.a0_t = sum.a0_t - slope;
-    sum.a0_tt = sum.a0_tt - curvature;
-    sum
+    GergDerivatives {
+        a0: a.a0 - value,
+        a0_t: a.a0_t - slope,
+        a0_tt: a.a0_tt - curvature,
+        ..a
+    }
 }

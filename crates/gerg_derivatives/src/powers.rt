@@ -10,8 +10,57 @@ ghost use Rattle.gerg_derivatives.specs.Powers.{power_cell, powers_of};
 
 use elementary::power as elementary_power;
 use elementary_exp::exp;
-use gerg_tables::numbers::wide;
 
+// A reduced density with its logarithm, and the cells that `powers` makes of them, lent.
+#[derive(Clone, Copy)]
+pub struct ReducedDensity<'a> {
+    pub delta: f64,
+    pub logarithm: f64,
+    pub cells: &'a [f64; 24],
+    pub ghost logarithm_is: { logarithm ≡ ln_of delta },
+    pub ghost cells_are: { cells.now ≡ powers_of delta },
+}
+
+impl<'a> ReducedDensity<'a> {
+    // delta to the signed number of a byte, by powf.
+    #[tactic(auto, using(elementary::proofs::Laws::powf_from_ln, crate::proofs::Laws::Powers::power_small))]
+    pub fn power(self, b: u8) -> f64
+        ensures { result ≡ powf_of self.entry.delta (signed_double_of b) }
+    {
+        if b < 8 {
+            return self.cells[usize::from(b)];
+        }
+        elementary_power::powf_of_ln(
+            self.delta,
+            self.logarithm,
+            elementary_power::signed_double(b),
+        )
+    }
+
+    #[tactic(auto, using(crate::proofs::Laws::Powers::damping_small))]
+    pub fn damping(self, q: u8) -> f64
+        ensures { result ≡ damping_of self.entry.delta q }
+    {
+        if q < 8 {
+            return self.cells[8 + usize::from(q)];
+        }
+        plain_damping(self.delta, q)
+    }
+
+    // The exponential of the damping's negative.
+    #[tactic(auto, using(crate::proofs::Laws::Powers::exponential_small))]
+    pub fn exponential(self, damping: f64, q: u8) -> f64
+        requires { damping ≡ damping_of self.delta q }
+        ensures { result ≡ exp_of (neg (damping_of self.entry.delta q)) }
+    {
+        if q < 8 {
+            return self.cells[16 + usize::from(q)];
+        }
+        exp::exp(-damping)
+    }
+}
+
+#[tactic(auto, unfolding(crate::specs::Parts::damping_of))]
 fn plain_damping(delta: f64, q: u8) -> f64
     ensures { result ≡ damping_of delta q }
 {
@@ -38,9 +87,9 @@ fn cell(dampings: &[f64; 8], delta: f64, logarithm: f64, c: u8) -> f64
         return elementary_power::powf_of_ln(delta, logarithm, elementary_power::signed_double(c));
     }
     if c < 16 {
-        return dampings[wide(c - 8)];
+        return dampings[usize::from(c - 8)];
     }
-    exp::exp(-dampings[wide(c - 16)])
+    exp::exp(-dampings[usize::from(c - 16)])
 }
 
 pub fn powers(delta: f64, logarithm: f64) -> [f64; 24]
@@ -49,42 +98,8 @@ pub fn powers(delta: f64, logarithm: f64) -> [f64; 24]
 {
     let dampings = small_dampings(delta);
     let mut out = [0.0; 24];
-    let mut c = 0u8;
-    while c < 24 {
-        out[wide(c)] = cell(&dampings, delta, logarithm, c);
-        c += 1;
+    for c in 0u8..24 {
+        out[usize::from(c)] = cell(&dampings, delta, logarithm, c);
     }
     out
-}
-
-// delta to the signed number of a byte, by powf.
-pub fn power(small: &[f64; 24], delta: f64, logarithm: f64, b: u8) -> f64
-    requires { (small.now ≡ powers_of delta) × (logarithm ≡ ln_of delta) }
-    ensures { result ≡ powf_of delta (signed_double_of b) }
-{
-    if b < 8 {
-        return small[wide(b)];
-    }
-    elementary_power::powf_of_ln(delta, logarithm, elementary_power::signed_double(b))
-}
-
-pub fn damping(small: &[f64; 24], delta: f64, q: u8) -> f64
-    requires { small.now ≡ powers_of delta }
-    ensures { result ≡ damping_of delta q }
-{
-    if q < 8 {
-        return small[8 + wide(q)];
-    }
-    plain_damping(delta, q)
-}
-
-// The exponential of the damping's negative.
-pub fn exponential(small: &[f64; 24], delta: f64, damping: f64, q: u8) -> f64
-    requires { (small.now ≡ powers_of delta) × (damping ≡ damping_of delta q) }
-    ensures { result ≡ exp_of (neg (damping_of delta q)) }
-{
-    if q < 8 {
-        return small[16 + wide(q)];
-    }
-    exp::exp(-damping)
 }

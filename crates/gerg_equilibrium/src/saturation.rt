@@ -1,49 +1,17 @@
 // The call `pure_saturation`.
 ghost use Rattle.std.specs.Prelude.{◌≡◌};
-ghost use Rattle.gerg_tables.specs.Tables.{tables, Shaped};
-ghost use Rattle.gerg_reducing.specs.Listed.{Listed};
 ghost use Rattle.gerg_equilibrium.specs.Equilibrium as is;
-ghost use Rattle.gerg_prepared.specs.declared.Refusal.TheVariants as refusals;
 
 use gerg::helmholtz;
 use gerg_ph::saturation;
-use gerg_prepared::{Mixed, Refusal, rows};
-use gerg_saturation::{Interval, Options, SaturationAnswer};
+use gerg_prepared::rows;
+use gerg_reducing::lent::Mixture;
+use gerg_refusals::Refusal;
+use gerg_saturation::{Interval, Options, PureSaturation};
+use gerg_tables::coefficients::Coefficients;
 
-fn saturation_from<'a>(
-    doubles: &'a [f64; 4086],
-    integers: &'a [u8; 1631],
-    mixed: Mixed,
-    target: f64,
-    lo: f64,
-    hi: f64,
-    limit: usize,
-) -> SaturationAnswer
-    requires { mixed.refusal ≡ refusals.Nothing → Shaped (tables doubles.now integers.now) × Listed mixed.model }
-    ensures { result ≡ is.saturation_from (tables doubles.now integers.now) mixed target lo hi limit }
-{
-    let refusal = mixed.refusal;
-    let volume_gradient = mixed.volume_gradient;
-    let temperature_gradient = mixed.temperature_gradient;
-    let gradients = [volume_gradient, temperature_gradient];
-    let model = mixed.model;
-    let interval = Interval { lo, hi };
-    let options = Options { interval, limit };
-    match refusal {
-        Refusal::Nothing => saturation::pure_saturation(
-            doubles,
-            integers,
-            &gradients,
-            model,
-            helmholtz::normal_range(),
-            target,
-            options,
-        ),
-        Refusal::Refused { number, value } => SaturationAnswer::Refused { number, value },
-    }
-}
-
-// The temperature from lo to hi (K) at which the two exterior roots of the pressure (Pa) have one fugacity coefficient, at most `limit` trials between the ends.
+// The temperature from lo to hi (K) at which the two exterior roots of the pressure (Pa) have one fugacity coefficient, at most `limit` trials between the ends;
+// none where the ends enclose none.
 pub fn pure_saturation(
     file: &[u8],
     list: &[u8],
@@ -52,12 +20,22 @@ pub fn pure_saturation(
     lo: f64,
     hi: f64,
     limit: usize,
-) -> SaturationAnswer
+) -> Result<Option<PureSaturation>, Refusal>
     ensures { result ≡ is.saturation_call file.now list.now fractions.now target lo hi limit }
 {
     let mut doubles = [0.0; 4086];
     let mut integers = [0u8; 1631];
-    let answer = gerg_coefficients::read_tables_into(file, &mut doubles, &mut integers);
-    let mixed = rows::mixed(&doubles, answer, list, fractions);
-    saturation_from(&doubles, &integers, mixed, target, lo, hi, limit)
+    let mixed = rows::prepare(file, list, fractions, &mut doubles, &mut integers)?;
+    let coefficients = Coefficients {
+        doubles: &doubles,
+        integers: &integers,
+    };
+    let mixture = Mixture {
+        coefficients,
+        model: &mixed.model,
+        gradients: &mixed.gradients,
+    };
+    let interval = Interval { lo, hi };
+    let options = Options { interval, limit };
+    saturation::pure_saturation(mixture, helmholtz::normal_range(), target, options)
 }

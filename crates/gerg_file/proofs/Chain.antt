@@ -1,47 +1,35 @@
--- A loop over the things of a chain: after k of n, what is left gives what the whole gives.
+-- A loop over the things of a chain: what is left gives what the whole gives. Their numbers end before `end`.
 use mathlib.Core.Path.{◌≡◌, sym, ap, ◌∙◌}
-use Prim.Native.Nat.{ℕ, suc, ◌+◌, ◌-◌, ◌*◌, ◌≤◌, ◌<◌}
+use Prim.Native.Nat.{ℕ, suc, ◌+◌, ◌-◌, ◌≤◌, ◌<◌}
 use native.Mathlib.Omega.{arith}
-use Rattle.gerg_file.specs.declared.walk.Walk.{Walk}
-use Rattle.gerg_file.specs.declared.walk.Walk.TheVariants.{To, Bad}
+use Rattle.gerg_file.specs.File.{Walk}
+use Rattle.std.specs.Prelude.{Ok, Err}
+use Rattle.gerg_refusals.specs.declared.Refusal.{Refusal}
 use Rattle.gerg_file.specs.Kinds as Kinds
-use Rattle.gerg_file.specs.Bytes.{byte, term_count}
-use Rattle.gerg_file.specs.File.{chain, follow, numbered, group, functions, same_at}
-use mathlib.Core.Bool.{Bool, true, false, ◌&&◌, cond}
+use Rattle.gerg_file.specs.Bytes.{byte}
+use Rattle.gerg_file.specs.File.{chain, follow, functions}
+use mathlib.Core.Bool.{Bool, true, false, cond}
 use mathlib.Core.List.{List}
-use native.Mathlib.Numerals.{add-one}
 use lib.Dec.{eqb}
-use lib.ListN.{length, get_or, drop, drop_of_length-le}
-use lib.Seq.{drop-cons}
 
-module _ (step : ℕ → ℕ → Walk) (n i : ℕ) where
-  pub start : (at : ℕ) → chain step n i at ≡ chain step (n - 0) (i + 0) at
-  start at = ap (λ (m : ℕ). chain step m i at) (omega arith) ∙ ap (λ (j : ℕ). chain step (n - 0) j at) (omega arith)
+module _ (step : ℕ → ℕ → Walk) (end : ℕ) where
+  pub start : (n i at : ℕ) → end ≡ i + n → chain step n i at ≡ chain step (end - i) i at
+  start n i at e = ap (λ (m : ℕ). chain step m i at) (omega arith)
 
-  unroll : (k at : ℕ) → k < n → chain step (n - k) (i + k) at ≡ follow (step (i + k) at) (chain step (n - (k + 1)) (i + (k + 1)))
+  unroll : (i at : ℕ) → i < end → chain step (end - i) i at ≡ follow (step i at) (chain step (end - (i + 1)) (i + 1))
   unfolding chain
-  unroll k at h =
-      ap (λ (m : ℕ). chain step m (i + k) at) (let e : n - k ≡ suc (n - (k + 1)) = omega arith in e)
-      ∙ ap (λ (j : ℕ). follow (step (i + k) at) (chain step (n - (k + 1)) j)) (let e : (i + k) + 1 ≡ i + (k + 1) = omega arith in e)
+  unroll i at h = ap (λ (m : ℕ). chain step m i at) (let e : end - i ≡ suc (end - (i + 1)) = omega arith in e)
 
-  pub go : (k at next : ℕ) {w : Walk} → k < n → w ≡ step (i + k) at → w ≡ To next → {v : Walk} → v ≡ chain step (n - k) (i + k) at
-      → v ≡ chain step (n - (k + 1)) (i + (k + 1)) next
-  go k at next h e q r = r ∙ unroll k at h ∙ ap (λ (w : Walk). follow w (chain step (n - (k + 1)) (i + (k + 1)))) (sym e ∙ q)
+  pub go : (i at next : ℕ) {w : Walk} → i < end → w ≡ step i at → w ≡ Ok next → {v : Walk} → v ≡ chain step (end - i) i at
+      → v ≡ chain step (end - (i + 1)) (i + 1) next
+  go i at next h e q r = r ∙ unroll i at h ∙ ap (λ (w : Walk). follow w (chain step (end - (i + 1)) (i + 1))) (sym e ∙ q)
 
-  pub stop : (k at bad : ℕ) {w : Walk} → k < n → w ≡ step (i + k) at → w ≡ Bad bad → {v : Walk} → v ≡ chain step (n - k) (i + k) at
-      → v ≡ Bad bad
-  stop k at bad h e q r = r ∙ unroll k at h ∙ ap (λ (w : Walk). follow w (chain step (n - (k + 1)) (i + (k + 1)))) (sym e ∙ q)
+  pub stop : (i at : ℕ) {r : Refusal} {w : Walk} → i < end → w ≡ step i at → w ≡ Err r → {v : Walk} → v ≡ chain step (end - i) i at → v ≡ Err r
+  stop i at h e q r = r ∙ unroll i at h ∙ ap (λ (w : Walk). follow w (chain step (end - (i + 1)) (i + 1))) (sym e ∙ q)
 
-  pub done : (k at : ℕ) → n ≤ k → {v : Walk} → v ≡ chain step (n - k) (i + k) at → v ≡ To at
+  pub done : (i at : ℕ) → end ≤ i → {v : Walk} → v ≡ chain step (end - i) i at → v ≡ Ok at
   unfolding chain
-  done k at h r = r ∙ ap (λ (m : ℕ). chain step m (i + k) at) (let e : n - k ≡ 0 = omega arith in e)
-
--- the terms of number 1 + k, walked with their count at hand
-pub group_step : (s : List ℕ) (kind size base counts stride k at : ℕ) {n : ℕ} {w : Walk} → n ≡ term_count s (base + (counts + stride * k))
-    → w ≡ chain (numbered s kind size (1 + k)) n 1 at → w ≡ group s kind size base counts stride (1 + k) at
-group_step s kind size base counts stride k at e r =
-    r ∙ ap (λ (m : ℕ). chain (numbered s kind size (1 + k)) m 1 at)
-    (e ∙ ap (λ (j : ℕ). term_count s (base + (counts + stride * j))) (let q : k ≡ (1 + k) - 1 = omega arith in q))
+  done i at h r = r ∙ ap (λ (m : ℕ). chain step m i at) (let e : end - i ≡ 0 = omega arith in e)
 
 -- after k functions of n, those that are left are counted
 pub more : (s : List ℕ) (n k at : ℕ) {t : ℕ} → k < n → eqb (byte s at) (Kinds.function).kind ≡ true → t ≡ k + functions s (n - k) at
@@ -63,27 +51,3 @@ pub all_counted : (s : List ℕ) (n k at : ℕ) {t : ℕ} → n ≤ k → t ≡ 
 unfolding functions
 all_counted s n k at h r =
     r ∙ ap (λ (m : ℕ). k + functions s m at) (let q : n - k ≡ 0 = omega arith in q) ∙ (let q : k + 0 ≡ k = omega arith in q)
-
--- after k bytes of bs, those that are left are compared
-pub none_compared : (s bs : List ℕ) (at : ℕ) → same_at s at bs ≡ same_at s (at + 0) (drop 0 bs)
-none_compared s bs at = ap (λ (j : ℕ). same_at s j bs) (omega arith)
-
-module _ (s bs : List ℕ) (at k : ℕ) {t : Bool} where
-  compared : {b : Bool} → k < length bs → eqb (byte s (at + k)) (get_or bs k 0) ≡ b → t ≡ same_at s (at + k) (drop k bs)
-      → t ≡ b && same_at s (at + k + 1) (drop (suc k) bs)
-  unfolding same_at
-  compared h e r =
-      r ∙ ap (λ (l : List ℕ). same_at s (at + k) l) (drop-cons bs k 0 h) ∙ ap (λ (b : Bool). b && same_at s (at + k + 1) (drop (suc k) bs)) e
-
-  pub next_same : k < length bs → eqb (byte s (at + k)) (get_or bs k 0) ≡ true → t ≡ same_at s (at + k) (drop k bs)
-      → t ≡ same_at s (at + (k + 1)) (drop (k + 1) bs)
-  next_same h e r =
-      compared h e r ∙ ap (λ (j : ℕ). same_at s j (drop (suc k) bs)) (let q : at + k + 1 ≡ at + (k + 1) = omega arith in q)
-      ∙ ap (λ (j : ℕ). same_at s (at + (k + 1)) (drop j bs)) (sym (add-one k))
-
-  pub not_same : k < length bs → eqb (byte s (at + k)) (get_or bs k 0) ≡ false → t ≡ same_at s (at + k) (drop k bs) → t ≡ false
-  not_same h e r = compared h e r
-
-  pub all_same : length bs ≤ k → t ≡ same_at s (at + k) (drop k bs) → t ≡ true
-  unfolding same_at
-  all_same h r = r ∙ ap (λ (l : List ℕ). same_at s (at + k) l) (drop_of_length-le bs h)

@@ -10,8 +10,8 @@ use borrow.Author.Tests.{eqb-true}
 use lib.Dec.{leb, eqb}
 use lib.ListN.{length}
 use Rattle.numerics.specs.Tests.{and_true}
-use Rattle.gerg_file.specs.declared.walk.Walk.{Walk}
-use Rattle.gerg_file.specs.declared.walk.Walk.TheVariants.{To}
+use Rattle.gerg_file.specs.File.{Walk}
+use Rattle.std.specs.Prelude.{Ok}
 use Rattle.gerg_file.specs.Bytes.{byte, term_count}
 use Rattle.gerg_file.specs.File.{place, chain, counted, numbered, group}
 use Rattle.gerg_file.specs.Counts.{sum}
@@ -35,14 +35,14 @@ sum_shift f zero = omega arith
 sum_shift f (suc n) = let a = sum_shift f n in omega arith
 
 -- steps of several sizes
-module _ (step : ℕ → ℕ → Walk) (size : ℕ → ℕ) (sized : (i at p : ℕ) → step i at ≡ To p → p ≡ at + size i) where
+module _ (step : ℕ → ℕ → Walk) (size : ℕ → ℕ) (sized : (i at p : ℕ) → step i at ≡ Ok p → p ≡ at + size i) where
   shifted : (i n : ℕ) → sum (λ h. size (i + h)) (suc n) ≡ size i + sum (λ h. size (i + 1 + h)) n
   shifted i n =
       sum_shift (λ h. size (i + h)) n
       ∙ ap (λ (m : ℕ). m + sum (λ h. size (i + suc h)) n) (ap size (let e : i + 0 ≡ i = omega arith in e))
       ∙ ap (λ (m : ℕ). size i + m) (sum_same (λ h. size (i + suc h)) (λ h. size (i + 1 + h)) (λ h. ap size (omega arith)) n)
 
-  pub chain_end : (n i at p : ℕ) → chain step n i at ≡ To p → p ≡ at + sum (λ h. size (i + h)) n
+  pub chain_end : (n i at p : ℕ) → chain step n i at ≡ Ok p → p ≡ at + sum (λ h. size (i + h)) n
   unfolding chain sum
   chain_end zero i at p e = let q : at ≡ p = cc in omega arith
   chain_end (suc n) i at p e =
@@ -52,8 +52,8 @@ module _ (step : ℕ → ℕ → Walk) (size : ℕ → ℕ) (sized : (i at p : �
       let t = shifted i n in
       omega arith
 
-  pub chain_at : (n i at p : ℕ) → chain step n i at ≡ To p → (k : ℕ) → k < n
-      → step (i + k) (at + sum (λ h. size (i + h)) k) ≡ To (place (step (i + k) (at + sum (λ h. size (i + h)) k)))
+  pub chain_at : (n i at p : ℕ) → chain step n i at ≡ Ok p → (k : ℕ) → k < n
+      → step (i + k) (at + sum (λ h. size (i + h)) k) ≡ Ok (place (step (i + k) (at + sum (λ h. size (i + h)) k)))
   unfolding chain sum
   chain_at zero i at p e k h = absurd (omega arith)
   chain_at (suc n) i at p e zero h =
@@ -74,10 +74,10 @@ abbrev numbered_test : List ℕ → ℕ → ℕ → ℕ → ℕ → ℕ → Bool
 numbered_test s kind size lead number at =
     leb (at + size) (length s) && eqb (byte s at) kind && eqb (byte s (at + 1)) lead && eqb (byte s (at + 2)) number
 
-pub numbered_size : (s : List ℕ) (kind size lead number at p : ℕ) → numbered s kind size lead number at ≡ To p → p ≡ at + size
+pub numbered_size : (s : List ℕ) (kind size lead number at p : ℕ) → numbered s kind size lead number at ≡ Ok p → p ≡ at + size
 numbered_size s kind size lead number at p e = (pick_to (numbered_test s kind size lead number at) (at + size) at p e).1
 
-pub numbered_stands : (s : List ℕ) (kind size lead number at p : ℕ) → numbered s kind size lead number at ≡ To p → Stands s kind lead number at
+pub numbered_stands : (s : List ℕ) (kind size lead number at p : ℕ) → numbered s kind size lead number at ≡ Ok p → Stands s kind lead number at
 numbered_stands s kind size lead number at p e =
     let a = leb (at + size) (length s) in
     let b = eqb (byte s at) kind in
@@ -124,12 +124,12 @@ unfolding sum
 sum_one c zero = sym (mul-zero c)
 sum_one c (suc n) = let a = sum_one c n in omega (arith, mul-suc c n)
 
-pub run_end : (s : List ℕ) (kind size lead n first at p : ℕ) → chain (numbered s kind size lead) n first at ≡ To p → p ≡ at + size * n
+pub run_end : (s : List ℕ) (kind size lead n first at p : ℕ) → chain (numbered s kind size lead) n first at ≡ Ok p → p ≡ at + size * n
 run_end s kind size lead n first at p e =
     chain_end (numbered s kind size lead) (λ h. size) (λ i at p g. numbered_size s kind size lead i at p g) n first at p e
     ∙ ap (λ (m : ℕ). at + m) (sum_one size n)
 
-pub counted_end : (s : List ℕ) (kind size counts limit n first at p : ℕ) → chain (counted s kind size counts limit) n first at ≡ To p → p ≡ at + size * n
+pub counted_end : (s : List ℕ) (kind size counts limit n first at p : ℕ) → chain (counted s kind size counts limit) n first at ≡ Ok p → p ≡ at + size * n
 counted_end s kind size counts limit n first at p e =
     chain_end (counted s kind size counts limit) (λ h. size) (counted_size s kind size counts limit) n first at p e
     ∙ ap (λ (m : ℕ). at + m) (sum_one size n)
@@ -139,7 +139,7 @@ module _ (s : List ℕ) (kind size base counts stride : ℕ) where
   abbrev of_number : ℕ → ℕ
   of_number h = term_count s (base + (counts + stride * h))
 
-  group_size : (i at p : ℕ) → group s kind size base counts stride i at ≡ To p → p ≡ at + size * of_number (i - 1)
+  group_size : (i at p : ℕ) → group s kind size base counts stride i at ≡ Ok p → p ≡ at + size * of_number (i - 1)
   group_size i at p e = run_end s kind size i (of_number (i - 1)) 1 at p e
 
   before : (n : ℕ) → sum (λ h. size * of_number (1 + h - 1)) n ≡ size * sum of_number n
@@ -147,19 +147,19 @@ module _ (s : List ℕ) (kind size base counts stride : ℕ) where
       sum_scale size (λ h. size * of_number (1 + h - 1)) of_number
       (λ h. ap (λ (j : ℕ). size * of_number j) (let q : 1 + h - 1 ≡ h = omega arith in q)) n
 
-  pub groups_end : (n at p : ℕ) → chain (group s kind size base counts stride) n 1 at ≡ To p → p ≡ at + size * sum of_number n
+  pub groups_end : (n at p : ℕ) → chain (group s kind size base counts stride) n 1 at ≡ Ok p → p ≡ at + size * sum of_number n
   groups_end n at p e =
       chain_end (group s kind size base counts stride) (λ i. size * of_number (i - 1)) group_size n 1 at p e
       ∙ ap (λ (m : ℕ). at + m) (before n)
 
-  pub groups_stand : (n at p : ℕ) → chain (group s kind size base counts stride) n 1 at ≡ To p → (i k : ℕ) → i < n → k < of_number i
+  pub groups_stand : (n at p : ℕ) → chain (group s kind size base counts stride) n 1 at ≡ Ok p → (i k : ℕ) → i < n → k < of_number i
       → Stands s kind (1 + i) (1 + k) (at + size * sum of_number i + size * k)
   groups_stand n at p e i k h g =
       let row = chain_at (group s kind size base counts stride) (λ i. size * of_number (i - 1)) group_size n 1 at p e i h in
       let q : 1 + i - 1 ≡ i = omega arith in
       let here : at + sum (λ h. size * of_number (1 + h - 1)) i ≡ at + size * sum of_number i = ap (λ (m : ℕ). at + m) (before i) in
       let w : (m : ℕ) → m ≡ at + size * sum of_number i → (j : ℕ) → j ≡ i → (p : ℕ)
-      → chain (numbered s kind size (1 + i)) (of_number j) 1 m ≡ To p → chain (numbered s kind size (1 + i)) (of_number i) 1 (at + size * sum of_number i) ≡ To p
+      → chain (numbered s kind size (1 + i)) (of_number j) 1 m ≡ Ok p → chain (numbered s kind size (1 + i)) (of_number i) 1 (at + size * sum of_number i) ≡ Ok p
       = λ m x j y p c. rw (x, y) at c in
       numbered_stands s kind size (1 + i) (1 + k) (at + size * sum of_number i + size * k) _
       (chain_step (numbered s kind size (1 + i)) size (λ i at p g. numbered_size s kind size _ i at p g) (of_number i) 1 (at + size * sum of_number i) _

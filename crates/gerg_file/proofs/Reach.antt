@@ -8,8 +8,9 @@ use native.Mathlib.Omega.{arith}
 use lib.Dec.{leb, eqb}
 use lib.ListN.{length}
 use Rattle.numerics.specs.Double.{pick}
-use Rattle.gerg_file.specs.declared.walk.Walk.{Walk}
-use Rattle.gerg_file.specs.declared.walk.Walk.TheVariants.{To, Bad}
+use Rattle.gerg_file.specs.File.{Walk}
+use Rattle.std.specs.Prelude.{Ok, Err}
+use Rattle.gerg_refusals.specs.declared.Refusal.TheVariants.{File}
 use Rattle.gerg_file.specs.Kinds as Kinds
 use Rattle.gerg_file.specs.Bytes.{byte, term_count}
 use Rattle.gerg_file.specs.File.{follow, place, chain, counted, numbered, group, component_step, term_row, pair_row, function_step, departure_row, same_at, revision, after_revision, after_components, after_terms, after_pairs, function_count, after_functions, after_departures, at_end}
@@ -30,11 +31,11 @@ unfolding room
 room_of_pairs = refl
 
 -- where a walk stands that goes on, and after a test
-follow_place : (w : Walk) (f : ℕ → Walk) (a b : ℕ) → place w ≤ a → ((p : ℕ) → w ≡ To p → p ≤ a → place (f p) ≤ p + b) → place (follow w f) ≤ a + b
-follow_place (To p) f a b h g = let r = g p refl h in omega arith
-follow_place (Bad p) f a b h g = omega arith
+follow_place : (w : Walk) (f : ℕ → Walk) (a b : ℕ) → place w ≤ a → ((p : ℕ) → w ≡ Ok p → p ≤ a → place (f p) ≤ p + b) → place (follow w f) ≤ a + b
+follow_place (Ok p) f a b h g = let r = g p refl h in omega arith
+follow_place (Err r) f a b h g = omega arith
 
-pick_place : (b : Bool) (p q a : ℕ) → p ≤ a → q ≤ a → place (pick b (To p) (Bad q)) ≤ a
+pick_place : (b : Bool) (p q a : ℕ) → p ≤ a → q ≤ a → place (pick b (Ok p) (Err (File q))) ≤ a
 pick_place true p q a h g = h
 pick_place false p q a h g = g
 
@@ -95,13 +96,13 @@ module _ (s : List ℕ) where
   counts_at : (a b c : ℕ) → a ≡ b → term_count s b ≤ c → term_count s a ≤ c
   counts_at a b c q h = rw q h
 
-  pub terms_limited : (p : ℕ) → after_components s ≡ To p → (i : ℕ) → i < 21
+  pub terms_limited : (p : ℕ) → after_components s ≡ Ok p → (i : ℕ) → i < 21
       → term_count s ((Kinds.revision).size + ((Kinds.component).counts + (Kinds.component).size * i)) ≤ 24
   terms_limited p e i h =
       counts_at ((Kinds.revision).size + ((Kinds.component).counts + (Kinds.component).size * i))
       ((Kinds.revision).size + (Kinds.component).size * i + (Kinds.component).counts) 24 (omega arith) (components_limit s p e i h)
 
-  pub departures_limited : (p : ℕ) → after_functions s ≡ To p → (m : ℕ) → m < function_count s
+  pub departures_limited : (p : ℕ) → after_functions s ≡ Ok p → (m : ℕ) → m < function_count s
       → term_count s (place (after_pairs s) + ((Kinds.function).counts + (Kinds.function).size * m)) ≤ 12
   departures_limited p e m h =
       counts_at (place (after_pairs s) + ((Kinds.function).counts + (Kinds.function).size * m))
@@ -110,7 +111,7 @@ module _ (s : List ℕ) where
   pub component_place : (i at : ℕ) → place (component_step s i at) ≤ at + (Kinds.component).size
   component_place i at = counted_place s _ _ _ _ i at
 
-  pub term_place : (p : ℕ) → after_components s ≡ To p → (i at : ℕ) → 0 < i → i ≤ 21 → place (term_row s i at) ≤ at + (Kinds.term).size * 24
+  pub term_place : (p : ℕ) → after_components s ≡ Ok p → (i at : ℕ) → 0 < i → i ≤ 21 → place (term_row s i at) ≤ at + (Kinds.term).size * 24
   term_place p e i at l h = group_place s _ _ _ _ _ 24 i at (terms_limited p e (i - 1) (omega arith))
 
   pub pair_place : (i at : ℕ) → 0 < i → place (pair_row s i at) ≤ at + (Kinds.pair).size * (22 - i)
@@ -119,7 +120,7 @@ module _ (s : List ℕ) where
   pub function_place : (i at : ℕ) → place (function_step s i at) ≤ at + (Kinds.function).size
   function_place i at = counted_place s _ _ _ _ i at
 
-  pub departure_place : (p : ℕ) → after_functions s ≡ To p → (i at : ℕ) → 0 < i → i ≤ function_count s
+  pub departure_place : (p : ℕ) → after_functions s ≡ Ok p → (i at : ℕ) → 0 < i → i ≤ function_count s
       → place (departure_row s (place (after_pairs s)) i at) ≤ at + (Kinds.departure).size * 12
   departure_place p e i at l h = group_place s _ _ _ _ _ 12 i at (departures_limited p e (i - 1) (omega arith))
 

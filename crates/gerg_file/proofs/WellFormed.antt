@@ -10,33 +10,33 @@ use lib.Dec.{leb, eqb}
 use lib.ListN.{length}
 use Rattle.numerics.specs.Tests.{and_true}
 use Rattle.numerics.specs.Double.{pick}
-use Rattle.gerg_file.specs.declared.walk.Walk.{Walk}
-use Rattle.gerg_file.specs.declared.walk.Walk.TheVariants.{To, Bad}
-use Rattle.gerg_file.specs.declared.File.TheVariants.{WellFormed}
+use Rattle.gerg_file.specs.File.{Walk}
+use Rattle.std.specs.Prelude.{Ok, Err}
+use Rattle.gerg_refusals.specs.declared.Refusal.TheVariants.{File}
 use Rattle.gerg_file.specs.declared.Layout.{Layout}
 use Rattle.gerg_file.specs.Kinds as Kinds
 use Rattle.gerg_file.specs.Bytes.{byte, term_count}
 use Rattle.gerg_file.specs.File.{follow, place, chain, counted, component_step, term_row, pair_row, function_step, departure_row, functions, same_at, revision, after_revision, after_components, after_terms, after_pairs, function_count, after_functions, after_departures, at_end, verdict, file_of}
 
 -- a walk that came through: so did each of its parts
-pub follow_to : (w : Walk) (f : ℕ → Walk) (p : ℕ) → follow w f ≡ To p → (w ≡ To (place w)) × (f (place w) ≡ To p)
-follow_to (To at) f p e = (refl, e)
-follow_to (Bad at) f p e = let z : ◌≡◌ {A = ℕ} 0 1 = cc in absurd (omega arith)
+pub follow_to : (w : Walk) (f : ℕ → Walk) (p : ℕ) → follow w f ≡ Ok p → (w ≡ Ok (place w)) × (f (place w) ≡ Ok p)
+follow_to (Ok at) f p e = (refl, e)
+follow_to (Err r) f p e = let z : ◌≡◌ {A = ℕ} 0 1 = cc in absurd (omega arith)
 
-pub pick_to : (b : Bool) (at bad p : ℕ) → pick b (To at) (Bad bad) ≡ To p → (b ≡ true) × (p ≡ at)
+pub pick_to : (b : Bool) (at bad p : ℕ) → pick b (Ok at) (Err (File bad)) ≡ Ok p → (b ≡ true) × (p ≡ at)
 pick_to true at bad p e = (refl, cc)
 pick_to false at bad p e = let z : ◌≡◌ {A = ℕ} 0 1 = cc in absurd (omega arith)
 
 -- step k of n steps of one size
-module _ (step : ℕ → ℕ → Walk) (size : ℕ) (sized : (i at p : ℕ) → step i at ≡ To p → p ≡ at + size) where
-  pub chain_step : (n i at p : ℕ) → chain step n i at ≡ To p → (k : ℕ) → k < n → step (i + k) (at + size * k) ≡ To (at + size * k + size)
+module _ (step : ℕ → ℕ → Walk) (size : ℕ) (sized : (i at p : ℕ) → step i at ≡ Ok p → p ≡ at + size) where
+  pub chain_step : (n i at p : ℕ) → chain step n i at ≡ Ok p → (k : ℕ) → k < n → step (i + k) (at + size * k) ≡ Ok (at + size * k + size)
   unfolding chain
   chain_step zero i at p e k h = absurd (omega arith)
   chain_step (suc n) i at p e zero h =
       let q = follow_to (step i at) (chain step n (i + 1)) p e in
       let b : i + 0 ≡ i = omega arith in
       let a : at + size * 0 ≡ at = omega (arith, mul-zero size) in
-      rw (a, b) (q.0 ∙ ap To (sized i at (place (step i at)) q.0))
+      rw (a, b) (q.0 ∙ ap Ok (sized i at (place (step i at)) q.0))
   chain_step (suc n) i at p e (suc k) h =
       let q = follow_to (step i at) (chain step n (i + 1)) p e in
       let g = sized i at (place (step i at)) q.0 in
@@ -48,11 +48,11 @@ module _ (step : ℕ → ℕ → Walk) (size : ℕ) (sized : (i at p : ℕ) → 
 abbrev counted_test : List ℕ → ℕ → ℕ → ℕ → ℕ → Bool
 counted_test s kind size lead at = leb (at + size) (length s) && eqb (byte s at) kind && eqb (byte s (at + 1)) lead
 
-pub counted_size : (s : List ℕ) (kind size counts limit lead at p : ℕ) → counted s kind size counts limit lead at ≡ To p → p ≡ at + size
+pub counted_size : (s : List ℕ) (kind size counts limit lead at p : ℕ) → counted s kind size counts limit lead at ≡ Ok p → p ≡ at + size
 counted_size s kind size counts limit lead at p e =
     (pick_to (counted_test s kind size lead at && leb (term_count s (at + counts)) limit) (at + size) at p e).1
 
-pub counted_limit : (s : List ℕ) (kind size counts limit lead at p : ℕ) → counted s kind size counts limit lead at ≡ To p
+pub counted_limit : (s : List ℕ) (kind size counts limit lead at p : ℕ) → counted s kind size counts limit lead at ≡ Ok p
     → term_count s (at + counts) ≤ limit
 counted_limit s kind size counts limit lead at p e =
     leb-true _ _
@@ -71,22 +71,22 @@ functions_limit s (suc n) at = at_most (eqb (byte s at) (Kinds.function).kind) (
 
 -- the limits of the counts of a section that came through
 module _ (s : List ℕ) where
-  revision_size : (p : ℕ) → after_revision s ≡ To p → p ≡ (Kinds.revision).size
+  revision_size : (p : ℕ) → after_revision s ≡ Ok p → p ≡ (Kinds.revision).size
   unfolding after_revision
   revision_size p e = (pick_to (eqb (byte s 0) (Kinds.revision).kind && same_at s 1 revision) (Kinds.revision).size 0 p e).1
 
   -- "at most 24"
-  pub components_limit : (p : ℕ) → after_components s ≡ To p → (i : ℕ) → i < 21
+  pub components_limit : (p : ℕ) → after_components s ≡ Ok p → (i : ℕ) → i < 21
       → term_count s ((Kinds.revision).size + (Kinds.component).size * i + (Kinds.component).counts) ≤ 24
   unfolding after_components
   components_limit p e i h =
       let t = follow_to (after_revision s) (chain (component_step s) 21 1) p e in
-      let q : chain (component_step s) 21 1 (Kinds.revision).size ≡ To p = rw (revision_size (place (after_revision s)) t.0) at t.1 in
+      let q : chain (component_step s) 21 1 (Kinds.revision).size ≡ Ok p = rw (revision_size (place (after_revision s)) t.0) at t.1 in
       counted_limit s _ _ _ 24 (1 + i) ((Kinds.revision).size + (Kinds.component).size * i) _
       (chain_step (component_step s) (Kinds.component).size (counted_size s _ _ _ _) 21 1 (Kinds.revision).size _ q i h)
 
   -- "at most 12 each"
-  pub functions_limits : (p : ℕ) → after_functions s ≡ To p → (m : ℕ) → m < function_count s
+  pub functions_limits : (p : ℕ) → after_functions s ≡ Ok p → (m : ℕ) → m < function_count s
       → term_count s (place (after_pairs s) + (Kinds.function).size * m + (Kinds.function).counts) ≤ 12
   unfolding after_functions
   functions_limits p e m h =
@@ -99,20 +99,20 @@ module _ (s : List ℕ) where
   count_at_most = functions_limit s 10 (place (after_pairs s))
 
 -- the layout of a well-formed file
-verdict_to : (s : List ℕ) (w : Walk) (l : Layout) → verdict s w ≡ WellFormed l
-    → (w ≡ To l.length) × (record { terms = place (after_components s); pairs = place (after_terms s); functions = place (after_pairs s); count = function_count s; departures = place (after_functions s); length = place w } ≡ l)
+verdict_to : (s : List ℕ) (w : Walk) (l : Layout) → verdict s w ≡ Ok l
+    → (w ≡ Ok l.length) × (record { terms = place (after_components s); pairs = place (after_terms s); functions = place (after_pairs s); count = function_count s; departures = place (after_functions s); length = place w } ≡ l)
 unfolding verdict
-verdict_to s (To at) l e =
+verdict_to s (Ok at) l e =
     let q : record { terms = place (after_components s); pairs = place (after_terms s); functions = place (after_pairs s); count = function_count s; departures = place (after_functions s); length = at } ≡ l = cc in
-    (ap (λ (l : Layout). To l.length) q, q)
-verdict_to s (Bad at) l e = let z : ◌≡◌ {A = ℕ} 0 1 = cc in absurd (omega arith)
+    (ap (λ (l : Layout). Ok l.length) q, q)
+verdict_to s (Err r) l e = let z : ◌≡◌ {A = ℕ} 0 1 = cc in absurd (omega arith)
 
-module _ (s : List ℕ) (l : Layout) (e : file_of s ≡ WellFormed l) where
-  whole : (follow (after_departures s) (at_end s) ≡ To l.length) × (record { terms = place (after_components s); pairs = place (after_terms s); functions = place (after_pairs s); count = function_count s; departures = place (after_functions s); length = place (follow (after_departures s) (at_end s)) } ≡ l)
+module _ (s : List ℕ) (l : Layout) (e : file_of s ≡ Ok l) where
+  whole : (follow (after_departures s) (at_end s) ≡ Ok l.length) × (record { terms = place (after_components s); pairs = place (after_terms s); functions = place (after_pairs s); count = function_count s; departures = place (after_functions s); length = place (follow (after_departures s) (at_end s)) } ≡ l)
   unfolding file_of
   whole = verdict_to s (follow (after_departures s) (at_end s)) l e
 
-  departures_end : after_departures s ≡ To (place (after_departures s))
+  departures_end : after_departures s ≡ Ok (place (after_departures s))
   departures_end = (follow_to (after_departures s) (at_end s) l.length whole.0).0
 
   -- the length is the file's
@@ -122,23 +122,23 @@ module _ (s : List ℕ) (l : Layout) (e : file_of s ≡ WellFormed l) where
       let p = pick_to (eqb (place (after_departures s)) (length s)) (place (after_departures s)) (place (after_departures s)) l.length q in
       p.1 ∙ eqb-true _ _ p.0
 
-  functions_end : after_functions s ≡ To (place (after_functions s))
+  functions_end : after_functions s ≡ Ok (place (after_functions s))
   unfolding after_departures
   functions_end = (follow_to (after_functions s) _ _ departures_end).0
 
-  pairs_end : after_pairs s ≡ To (place (after_pairs s))
+  pairs_end : after_pairs s ≡ Ok (place (after_pairs s))
   unfolding after_functions
   pairs_end = (follow_to (after_pairs s) _ _ functions_end).0
 
-  terms_end : after_terms s ≡ To (place (after_terms s))
+  terms_end : after_terms s ≡ Ok (place (after_terms s))
   unfolding after_pairs
   terms_end = (follow_to (after_terms s) _ _ pairs_end).0
 
-  components_end : after_components s ≡ To (place (after_components s))
+  components_end : after_components s ≡ Ok (place (after_components s))
   unfolding after_terms
   components_end = (follow_to (after_components s) _ _ terms_end).0
 
-  revision_end : after_revision s ≡ To (place (after_revision s))
+  revision_end : after_revision s ≡ Ok (place (after_revision s))
   unfolding after_components
   revision_end = (follow_to (after_revision s) _ _ components_end).0
 
@@ -158,8 +158,8 @@ module _ (s : List ℕ) (l : Layout) (e : file_of s ≡ WellFormed l) where
   pub count_limit : l.count ≤ 10
   count_limit = rw count_is at (count_at_most s)
 
-  through : (p : ℕ) → follow (after_pairs s) (chain (function_step s) (function_count s) 1) ≡ To p
-      → chain (function_step s) l.count 1 l.functions ≡ To p
+  through : (p : ℕ) → follow (after_pairs s) (chain (function_step s) (function_count s) 1) ≡ Ok p
+      → chain (function_step s) l.count 1 l.functions ≡ Ok p
   through p g = rw (functions_at, count_is) at (follow_to (after_pairs s) (chain (function_step s) (function_count s) 1) p g).1
 
   pub departures_limit : (m : ℕ) → m < l.count → term_count s (l.functions + (Kinds.function).size * m + (Kinds.function).counts) ≤ 12
@@ -181,29 +181,29 @@ module _ (s : List ℕ) (l : Layout) (e : file_of s ≡ WellFormed l) where
       (follow_to (after_departures s) (at_end s) l.length whole.0).1).1
 
   -- the sections, from where each begins to where the next does
-  section : (w : Walk) (f : ℕ → Walk) (a b p : ℕ) → follow w f ≡ To p → place w ≡ a → p ≡ b → f a ≡ To b
-  section w f a b p g x y = ap f (sym x) ∙ (follow_to w f p g).1 ∙ ap To y
+  section : (w : Walk) (f : ℕ → Walk) (a b p : ℕ) → follow w f ≡ Ok p → place w ≡ a → p ≡ b → f a ≡ Ok b
+  section w f a b p g x y = ap f (sym x) ∙ (follow_to w f p g).1 ∙ ap Ok y
 
-  pub components_walk : chain (component_step s) 21 1 (Kinds.revision).size ≡ To l.terms
+  pub components_walk : chain (component_step s) 21 1 (Kinds.revision).size ≡ Ok l.terms
   unfolding after_components
   components_walk = section (after_revision s) (chain (component_step s) 21 1) (Kinds.revision).size l.terms (place (after_components s)) components_end components_at terms_at
 
-  pub terms_walk : chain (term_row s) 21 1 l.terms ≡ To l.pairs
+  pub terms_walk : chain (term_row s) 21 1 l.terms ≡ Ok l.pairs
   unfolding after_terms
   terms_walk = section (after_components s) (chain (term_row s) 21 1) l.terms l.pairs (place (after_terms s)) terms_end terms_at pairs_at
 
-  pub pairs_walk : chain (pair_row s) 21 1 l.pairs ≡ To l.functions
+  pub pairs_walk : chain (pair_row s) 21 1 l.pairs ≡ Ok l.functions
   unfolding after_pairs
   pairs_walk = section (after_terms s) (chain (pair_row s) 21 1) l.pairs l.functions (place (after_pairs s)) pairs_end pairs_at functions_at
 
-  pub functions_walk : chain (function_step s) l.count 1 l.functions ≡ To l.departures
+  pub functions_walk : chain (function_step s) l.count 1 l.functions ≡ Ok l.departures
   unfolding after_functions
-  functions_walk = through (place (after_functions s)) functions_end ∙ ap To departures_at
+  functions_walk = through (place (after_functions s)) functions_end ∙ ap Ok departures_at
 
-  last : (p : ℕ) → follow (after_functions s) (chain (departure_row s (place (after_pairs s))) (function_count s) 1) ≡ To p
-      → chain (departure_row s l.functions) l.count 1 l.departures ≡ To p
+  last : (p : ℕ) → follow (after_functions s) (chain (departure_row s (place (after_pairs s))) (function_count s) 1) ≡ Ok p
+      → chain (departure_row s l.functions) l.count 1 l.departures ≡ Ok p
   last p g = rw (departures_at, functions_at, count_is) at (follow_to (after_functions s) (chain (departure_row s (place (after_pairs s))) (function_count s) 1) p g).1
 
-  pub departures_walk : chain (departure_row s l.functions) l.count 1 l.departures ≡ To l.length
+  pub departures_walk : chain (departure_row s l.functions) l.count 1 l.departures ≡ Ok l.length
   unfolding after_departures
-  departures_walk = last (place (after_departures s)) departures_end ∙ ap To end_at
+  departures_walk = last (place (after_departures s)) departures_end ∙ ap Ok end_at

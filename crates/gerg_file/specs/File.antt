@@ -1,31 +1,35 @@
 -- Row 1: which files are accepted, and the offset of the first bad record of one that is not.
-use Rattle.std.specs.Prelude.{Bool, true, ◌&&◌, cond, List, [], ◌∷◌, ℕ, zero, suc, ◌+◌, ◌-◌, ◌*◌, leb, eqb, length}
+use Rattle.std.specs.Prelude.{Bool, true, ◌&&◌, cond, List, [], ◌∷◌, ℕ, zero, suc, ◌+◌, ◌-◌, ◌*◌, leb, eqb, length, Result, Ok, Err}
 use Rattle.numerics.specs.Double.{pick}
 use Rattle.gerg_file.specs.Kinds as Kinds
 use Rattle.gerg_file.specs.Bytes.{byte, term_count}
-use Rattle.gerg_file.specs.declared.walk.Walk.{Walk}
-use Rattle.gerg_file.specs.declared.walk.Walk.TheVariants.{To, Bad}
-use Rattle.gerg_file.specs.declared.File.{File}
-use Rattle.gerg_file.specs.declared.File.TheVariants.{Malformed, WellFormed}
+use Rattle.gerg_file.specs.declared.Layout.{Layout}
+use Rattle.gerg_refusals.specs.declared.Refusal.{Refusal}
+use Rattle.gerg_refusals.specs.declared.Refusal.TheVariants.{File}
+use Rattle.gerg_refusals.specs.Refusal.{value_of}
+
+-- where a walk over records has come: past the last, or to the start of the first bad one
+abbrev pub Walk : Type 0
+Walk = Result ℕ Refusal
 
 -- on from where the walk has come, unless it met a bad record
 abbrev pub follow : Walk → (ℕ → Walk) → Walk
-follow (To at) f = f at
-follow (Bad at) f = Bad at
+follow (Ok at) f = f at
+follow (Err r) f = Err r
 
 -- where a walk has come
 abbrev pub place : Walk → ℕ
-place (To at) = at
-place (Bad at) = at
+place (Ok at) = at
+place (Err r) = value_of r
 
 -- n things in a row, numbered from i, of which each begins where the one before ended
 unfoldable pub chain : (ℕ → ℕ → Walk) → ℕ → ℕ → ℕ → Walk
-chain step zero i at = To at
+chain step zero i at = Ok at
 chain step (suc n) i at = follow (step i at) (chain step n (i + 1))
 
 -- a good record is passed, and a bad one refused at its start
 abbrev pub passed : Bool → ℕ → ℕ → Walk
-passed good size at = pick good (To (at + size)) (Bad at)
+passed good size at = pick good (Ok (at + size)) (Err (File at))
 
 -- "Each record is one kind byte and a body whose length the kind fixes": a record of `size` bytes, that begins with its kind and its leading number and has two counts `counts` bytes past its start, together at most `limit`
 abbrev pub counted : List ℕ → ℕ → ℕ → ℕ → ℕ → ℕ → ℕ → Walk
@@ -80,7 +84,7 @@ functions s (suc n) at = cond (eqb (byte s at) (Kinds.function).kind) (suc (func
 
 -- The file, section by section: "one kind 1,
 unfoldable pub after_revision : List ℕ → Walk
-after_revision s = pick (eqb (byte s 0) (Kinds.revision).kind && same_at s 1 revision) (To (Kinds.revision).size) (Bad 0)
+after_revision s = pick (eqb (byte s 0) (Kinds.revision).kind && same_at s 1 revision) (Ok (Kinds.revision).size) (Err (File 0))
 
 -- 21 of kind 2,
 unfoldable pub after_components : List ℕ → Walk
@@ -107,13 +111,13 @@ after_departures s = follow (after_functions s) (chain (departure_row s (place (
 
 -- no "bytes over"
 abbrev pub at_end : List ℕ → ℕ → Walk
-at_end s at = pick (eqb at (length s)) (To at) (Bad at)
+at_end s at = pick (eqb at (length s)) (Ok at) (Err (File at))
 
 -- "offset of that record, or of the first byte over", or where the sections begin
-unfoldable pub verdict : List ℕ → Walk → File
-verdict s (Bad at) = Malformed at
-verdict s (To at) =
-    WellFormed
+unfoldable pub verdict : List ℕ → Walk → Result Layout Refusal
+verdict s (Err r) = Err r
+verdict s (Ok at) =
+    Ok
     (record {
       terms = place (after_components s);
       pairs = place (after_terms s);
@@ -123,5 +127,5 @@ verdict s (To at) =
       length = at;
     })
 
-unfoldable pub file_of : List ℕ → File
+unfoldable pub file_of : List ℕ → Result Layout Refusal
 file_of s = verdict s (follow (after_departures s) (at_end s))

@@ -4,16 +4,10 @@ ghost use Rattle.std.specs.Float.Ieee.{of_bits};
 ghost use Rattle.std.specs.Float.{binary64};
 ghost use Rattle.gerg_file.specs.Bytes.{byte, term_count, word, double_at};
 
-pub fn wide(b: u8) -> usize
-    ensures { result ≡ b }
-{
-    b as usize
-}
-
 pub fn byte_at(s: &[u8], at: usize) -> usize
     ensures { (result ≡ byte s.now at) × ((result < 256) × (0 < result → at < length s.now)) }
 {
-    if at < s.len() { wide(s[at]) } else { 0 }
+    if at < s.len() { usize::from(s[at]) } else { 0 }
 }
 
 // The two counts that stand `offset` bytes past `base`, together.
@@ -34,7 +28,7 @@ pub fn byte_inside(s: &[u8], at: usize) -> usize
     requires { at < length s.now }
     ensures { (result ≡ byte s.now at) × (result < 256) }
 {
-    wide(s[at])
+    usize::from(s[at])
 }
 
 // The kind and two leading numbers of a record of at least 4 bytes, as one number: with the byte after them this is one load.
@@ -77,6 +71,7 @@ fn double_of(w: u64) -> f64
 }
 
 // The double of 8 bytes of the file.
+#[tactic(auto, unfolding(crate::specs::Bytes::double_at))]
 pub fn double_inside(s: &[u8], at: usize) -> f64
     requires { at + 8 ≤ length s.now }
     ensures { result ≡ double_at s.now at }

@@ -1,54 +1,66 @@
-// The records of each kind: the kind byte, the bytes of the whole record, and where its numbers begin, counted from the kind byte. `specs/Kinds.antt` has the
-// same names.
+// The records of each kind. `specs/Kinds.antt` has the same names.
 
-// One revision, at the start of the file.
-pub const REVISION_KIND: usize = 1;
+ghost use Rattle.std.specs.Prelude.{◌≤◌, ◌<◌};
 
-pub const REVISION_SIZE: usize = 41;
+#[derive(Clone, Copy)]
+pub struct Kind {
+    pub kind: usize,
+    // the bytes of the whole record, kind byte included
+    pub size: usize,
+    // where its bytes begin that are no leading numbers, and where its doubles, counted from the kind byte
+    pub bytes: usize,
+    pub doubles: usize,
+    pub ghost within: { (4 ≤ size) × ((size < 256) × ((kind < 256) × (bytes < size))) },
+}
 
-// Component, Tc, MMiGERG, kpol, kexp, n0i 1 to 7, th0i 4 to 7.
-pub const COMPONENT_KIND: usize = 2;
+// One revision, at the start of the file: 40 characters.
+pub const REVISION: Kind = Kind {
+    kind: 1,
+    size: 41,
+    bytes: 1,
+    doubles: 41,
+};
 
-pub const COMPONENT_SIZE: usize = 108;
+// Component, Tc, MMiGERG, kpol, kexp, n0i 1 to 7, th0i 4 to 7: its counts, and its ideal part.
+pub const COMPONENT: Kind = Kind {
+    kind: 2,
+    size: 108,
+    bytes: 18,
+    doubles: 20,
+};
 
 pub const COMPONENT_TC: usize = 2;
 
 pub const COMPONENT_MASS: usize = 10;
 
-pub const COMPONENT_COUNTS: usize = 18;
-
-pub const COMPONENT_IDEAL: usize = 20;
-
 // Component, term, coik, doik, noik, toik.
-pub const TERM_KIND: usize = 3;
-
-pub const TERM_SIZE: usize = 21;
-
-pub const TERM_EXPONENTS: usize = 3;
-
-pub const TERM_DOUBLES: usize = 5;
+pub const TERM: Kind = Kind {
+    kind: 3,
+    size: 21,
+    bytes: 3,
+    doubles: 5,
+};
 
 // i, j, btij, bvij, gtij, gvij, fij, mNumb.
-pub const PAIR_KIND: usize = 4;
-
-pub const PAIR_SIZE: usize = 44;
-
-pub const PAIR_DOUBLES: usize = 3;
-
-pub const PAIR_NUMBER: usize = 43;
+pub const PAIR: Kind = Kind {
+    kind: 4,
+    size: 44,
+    bytes: 43,
+    doubles: 3,
+};
 
 // Departure function, kpolij, kexpij.
-pub const FUNCTION_KIND: usize = 5;
-
-pub const FUNCTION_SIZE: usize = 4;
-
-pub const FUNCTION_COUNTS: usize = 2;
+pub const FUNCTION: Kind = Kind {
+    kind: 5,
+    size: 4,
+    bytes: 2,
+    doubles: 4,
+};
 
 // Departure function, term, dijk, cijk, eijk, gijk, nijk, tijk.
-pub const DEPARTURE_KIND: usize = 6;
-
-pub const DEPARTURE_SIZE: usize = 44;
-
-pub const DEPARTURE_EXPONENT: usize = 3;
-
-pub const DEPARTURE_DOUBLES: usize = 4;
+pub const DEPARTURE: Kind = Kind {
+    kind: 6,
+    size: 44,
+    bytes: 3,
+    doubles: 4,
+};

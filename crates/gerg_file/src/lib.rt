@@ -9,7 +9,7 @@ pub mod kinds;
 mod records;
 mod walk;
 
-use walk::Walk;
+use gerg_refusals::Refusal;
 
 // Where the sections of a well-formed file begin.
 #[derive(Clone, Copy)]
@@ -26,31 +26,27 @@ pub struct Layout {
     pub length: usize,
 }
 
-// What a file is: the offset of its first bad record or of the first byte over, or where its sections begin.
-#[derive(Clone, Copy)]
-pub enum File {
-    Malformed(usize),
-    WellFormed(Layout),
-}
-
-pub fn read_layout(s: &[u8]) -> File
+// Where the sections of a file begin, or the offset of its first bad record or of the first byte over.
+#[tactic(auto, unfolding(crate::specs::File::file_of, crate::specs::File::verdict, crate::specs::File::after_components, crate::specs::File::after_terms, crate::specs::File::after_pairs, crate::specs::File::function_count, crate::specs::File::after_functions, crate::specs::File::after_departures))]
+pub fn read_layout(s: &[u8]) -> Result<Layout, Refusal>
     ensures { result ≡ file_of s.now }
 {
-    let components = records::revision_record(s).components(s);
-    let terms = components.terms(s);
-    let pairs = terms.pairs(s);
-    let count = records::function_count(s, pairs.place());
-    let functions = pairs.functions(s, count);
-    let departures = functions.departures(s, pairs.place(), count);
-    match departures.end(s) {
-        Walk::Bad(at) => File::Malformed(at),
-        Walk::To(at) => File::WellFormed(Layout {
-            terms: components.place(),
-            pairs: terms.place(),
-            functions: pairs.place(),
-            count,
-            departures: functions.place(),
-            length: at,
-        }),
+    let components = walk::revision(s)?;
+    let terms = walk::components(s, components)?;
+    let pairs = walk::terms(s, terms)?;
+    let functions = walk::pairs(s, pairs)?;
+    let count = walk::function_count(s, functions);
+    let departures = walk::functions(s, count, functions)?;
+    let end = walk::departures(s, functions, count, departures)?;
+    if end != s.len() {
+        return Err(Refusal::File { offset: end });
     }
+    Ok(Layout {
+        terms,
+        pairs,
+        functions,
+        count,
+        departures,
+        length: end,
+    })
 }

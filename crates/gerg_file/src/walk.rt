@@ -1,123 +1,90 @@
-// The sections of a coefficient file, one after the other.
+// The sections of a coefficient file, each from where it begins to where the next does.
 ghost use Rattle.std.specs.Prelude.{◌≡◌, ◌≤◌};
-ghost use Rattle.gerg_file.specs.File.{chain, component_step, term_row, pair_row, function_step, departure_row, follow, place, at_end};
+ghost use Rattle.gerg_file.specs.File.{after_revision, chain, component_step, term_row, pair_row, functions, function_step, departure_row};
 
-use crate::kinds::{
-    COMPONENT_COUNTS, COMPONENT_KIND, COMPONENT_SIZE, DEPARTURE_KIND, DEPARTURE_SIZE,
-    FUNCTION_COUNTS, FUNCTION_KIND, FUNCTION_SIZE, REVISION_SIZE, TERM_KIND, TERM_SIZE,
-};
-use crate::records::{counted_run, groups, pair_rows};
+use crate::bytes::byte_at;
+use crate::kinds::{COMPONENT, DEPARTURE, FUNCTION, PAIR, REVISION, TERM};
+use crate::records::{counted_record, group, numbered_run, run};
+use gerg_refusals::Refusal;
 
-// Where a walk over records has come: past the last, or to the start of the first bad one.
-#[derive(Clone, Copy)]
-pub enum Walk {
-    To(usize),
-    Bad(usize),
+// The first record: kind 1 and the revision of the tables.
+pub fn revision(s: &[u8]) -> Result<usize, Refusal>
+    ensures { result ≡ after_revision s.now }
+{
+    if s.starts_with(b"\x013bdb9ab8ff317c618b0b59d1b704c2c86ddc5fce") {
+        return Ok(REVISION.size);
+    }
+    Err(Refusal::File { offset: 0 })
 }
 
-impl Walk {
-    pub fn place(self) -> usize
-        ensures { result ≡ place self }
-    {
-        match self {
-            Walk::To(at) => at,
-            Walk::Bad(at) => at,
-        }
-    }
+pub fn components(s: &[u8], at: usize) -> Result<usize, Refusal>
+    ensures { result ≡ chain (component_step s.now) 21 1 at }
+{
+    run(
+        1,
+        21,
+        at,
+        |number, here| counted_record(s, COMPONENT, 24, number, here),
+    )
+}
 
-    pub fn components(self, s: &[u8]) -> Walk
-        ensures { result ≡ follow self (chain (component_step s.now) 21 1) }
-    {
-        match self {
-            Walk::To(at) => counted_run(
-                s,
-                COMPONENT_KIND,
-                COMPONENT_SIZE,
-                COMPONENT_COUNTS,
-                24,
-                21,
-                at,
-            ),
-            Walk::Bad(at) => Walk::Bad(at),
-        }
-    }
+pub fn terms(s: &[u8], at: usize) -> Result<usize, Refusal>
+    ensures { result ≡ chain (term_row s.now) 21 1 at }
+{
+    run(
+        1,
+        21,
+        at,
+        |number, here| group(s, TERM, REVISION.size, COMPONENT, number, here),
+    )
+}
 
-    pub fn terms(self, s: &[u8]) -> Walk
-        ensures { result ≡ follow self (chain (term_row s.now) 21 1) }
-    {
-        match self {
-            Walk::To(at) => groups(
-                s,
-                TERM_KIND,
-                TERM_SIZE,
-                REVISION_SIZE,
-                COMPONENT_COUNTS,
-                COMPONENT_SIZE,
-                21,
-                at,
-            ),
-            Walk::Bad(at) => Walk::Bad(at),
-        }
-    }
+pub fn pairs(s: &[u8], at: usize) -> Result<usize, Refusal>
+    ensures { result ≡ chain (pair_row s.now) 21 1 at }
+{
+    run(
+        1,
+        21,
+        at,
+        |number, here| numbered_run(s, PAIR, number, 22 - number, number, here),
+    )
+}
 
-    pub fn pairs(self, s: &[u8]) -> Walk
-        ensures { result ≡ follow self (chain (pair_row s.now) 21 1) }
-    {
-        match self {
-            Walk::To(at) => pair_rows(s, at),
-            Walk::Bad(at) => Walk::Bad(at),
+// How many departure functions there are.
+pub fn function_count(s: &[u8], at: usize) -> usize
+    ensures { (result ≡ functions s.now 10 at) × (result ≤ 10) }
+{
+    let mut here = at;
+    for count in 0..10 {
+        if byte_at(s, here) != FUNCTION.kind {
+            return count;
         }
+        here += FUNCTION.size;
     }
+    10
+}
 
-    pub fn functions(self, s: &[u8], count: usize) -> Walk
-        requires { count ≤ 10 }
-        ensures { result ≡ follow self (chain (function_step s.now) count 1) }
-    {
-        match self {
-            Walk::To(at) => counted_run(
-                s,
-                FUNCTION_KIND,
-                FUNCTION_SIZE,
-                FUNCTION_COUNTS,
-                12,
-                count,
-                at,
-            ),
-            Walk::Bad(at) => Walk::Bad(at),
-        }
-    }
+pub fn functions(s: &[u8], count: usize, at: usize) -> Result<usize, Refusal>
+    requires { count ≤ 10 }
+    ensures { result ≡ chain (function_step s.now) count 1 at }
+{
+    run(
+        1,
+        count,
+        at,
+        |number, here| counted_record(s, FUNCTION, 12, number, here),
+    )
+}
 
-    pub fn departures(self, s: &[u8], functions: usize, count: usize) -> Walk
-        requires { count ≤ 10 }
-        ensures { result ≡ follow self (chain (departure_row s.now functions) count 1) }
-    {
-        match self {
-            Walk::To(at) => groups(
-                s,
-                DEPARTURE_KIND,
-                DEPARTURE_SIZE,
-                functions,
-                FUNCTION_COUNTS,
-                FUNCTION_SIZE,
-                count,
-                at,
-            ),
-            Walk::Bad(at) => Walk::Bad(at),
-        }
-    }
-
-    pub fn end(self, s: &[u8]) -> Walk
-        ensures { result ≡ follow self (at_end s.now) }
-    {
-        match self {
-            Walk::To(at) => {
-                if at == s.len() {
-                    Walk::To(at)
-                } else {
-                    Walk::Bad(at)
-                }
-            }
-            Walk::Bad(at) => Walk::Bad(at),
-        }
-    }
+// The terms of the `count` departure functions at `functions`.
+pub fn departures(s: &[u8], functions: usize, count: usize, at: usize) -> Result<usize, Refusal>
+    requires { count ≤ 10 }
+    ensures { result ≡ chain (departure_row s.now functions) count 1 at }
+{
+    run(
+        1,
+        count,
+        at,
+        |number, here| group(s, DEPARTURE, functions, FUNCTION, number, here),
+    )
 }

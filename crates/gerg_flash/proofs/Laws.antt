@@ -1,6 +1,5 @@
--- The ways of the call through rows 20 and 21
-pub mod Tested
--- by what numbers a search refuses, how many roots it keeps, and the value of its answer
+-- By what rows and numbers a search refuses, how many roots it keeps, and the value of its answer
+pub mod SearchedRows
 pub mod Numbers
 pub mod Few
 pub mod Values

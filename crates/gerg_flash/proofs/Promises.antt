@@ -12,8 +12,9 @@ use Rattle.gerg_tables.specs.declared.Tables.{Tables}
 use Rattle.gerg_reducing.specs.declared.GergModel.{GergModel}
 use Rattle.gerg.specs.declared.Range.{Range}
 use Rattle.gerg_flash.specs.Roots.{searched_of, roots_of, roots_memory}
-use Rattle.gerg_root_list.specs.RootsNumbers.{number_of, value_of}
-use Rattle.gerg_root_list.specs.declared.RootsAnswer.TheVariants.{Roots}
+use Rattle.gerg_refusals.specs.Answer.{number_of, value_of}
+use Rattle.gerg_root_list.specs.RootList.{roots_in}
+use Rattle.std.specs.Prelude.{Ok}
 use Rattle.gerg_flash.proofs.Laws.Few.{searched_few}
 use Rattle.gerg_root_list.proofs.Laws.RootList.{root_list}
 use Rattle.gerg_flash.proofs.Laws.RootsRise.{searched_rises}
@@ -22,7 +23,7 @@ use Rattle.gerg_root_list.proofs.Laws.Written.{list_length, density_at, past_sta
 use Rattle.gerg_flash.proofs.Laws.Accepted.{roots_accepted}
 
 -- ---- of an accepted call, which answers n roots
-module _ (t : Tables) (m : GergModel) (gradients : List (List Float)) (range : Range) (temperature pressure : Float) (out : List Float) (n : ℕ) (e : roots_of t m gradients range temperature pressure (length out) ≡ Roots n) where
+module _ (t : Tables) (m : GergModel) (gradients : List (List Float)) (range : Range) (temperature pressure : Float) (out : List Float) (n : ℕ) (e : roots_of t m gradients range temperature pressure (length out) ≡ Ok n) where
   accepted : Accepted m (length out) n (searched_of t m gradients range temperature pressure)
   accepted = roots_accepted t m gradients range temperature pressure (length out) n e
 
@@ -34,16 +35,16 @@ module _ (t : Tables) (m : GergModel) (gradients : List (List Float)) (range : R
   pub needed_lent : n * (4 + m.components) ≤ length out
   needed_lent = omega (arith, ap (λ (c : ℕ). c * (4 + m.components)) accepted.count, accepted.room)
 
-  density : (i : ℕ) → i < n → get_or (roots_memory t m gradients range temperature pressure out) (i * (4 + m.components)) nan ≡ get_or (root_list (searched_of t m gradients range temperature pressure).heads) i nan
+  density : (i : ℕ) → i < n → get_or (roots_memory t m gradients range temperature pressure out) (i * (4 + m.components)) nan ≡ get_or (root_list (roots_in (searched_of t m gradients range temperature pressure))) i nan
   unfolding roots_memory
   density i h = density_at m (searched_of t m gradients range temperature pressure) (roots_of t m gradients range temperature pressure (length out)) n out e needed_lent i h
 
   -- "Root lists rise strictly": of two roots as they are written, 4 + the list's length doubles each with the density first, the later has the greater density
   pub root_lists_rise : (i j : ℕ) → i < j → j < n → T (lt (get_or (roots_memory t m gradients range temperature pressure out) (i * (4 + m.components)) nan) (get_or (roots_memory t m gradients range temperature pressure out) (j * (4 + m.components)) nan))
   root_lists_rise i j h k =
-      let l = root_list (searched_of t m gradients range temperature pressure).heads in
+      let l = root_list (roots_in (searched_of t m gradients range temperature pressure)) in
       let r = searched_rises t m gradients range temperature pressure in
-      let whole : length l ≡ n = list_length (searched_of t m gradients range temperature pressure).heads ∙ accepted.count in
+      let whole : length l ≡ n = list_length (roots_in (searched_of t m gradients range temperature pressure)) ∙ accepted.count in
       let b : j < length l = omega (arith, whole) in
       rw (density i (lt_trans h k), density j k)
       (count→lt (get_or l i nan) (get_or l j nan) (r.each i (lt_trans h b)).good (r.each j b).good (r.order i j h b))
@@ -61,7 +62,7 @@ module _ (t : Tables) (m : GergModel) (gradients : List (List Float)) (range : R
   refusal_leaves_memory out h = refused_stays m (searched_of t m gradients range temperature pressure) (roots_of t m gradients range temperature pressure (length out)) out h
 
   -- number 0 is an accepted call
-  pub accepted_roots : (lent : ℕ) → number_of (roots_of t m gradients range temperature pressure lent) ≡ 0 → (n : ℕ) × (roots_of t m gradients range temperature pressure lent ≡ Roots n)
+  pub accepted_roots : (lent : ℕ) → number_of (roots_of t m gradients range temperature pressure lent) ≡ 0 → (n : ℕ) × (roots_of t m gradients range temperature pressure lent ≡ Ok n)
   accepted_roots lent z = (roots_told t m gradients range temperature pressure lent).accepted z
 
   -- the value of every row but 24 is 0

@@ -1,36 +1,30 @@
 -- The exterior roots: what a root gives, the search, and the answer.
-use Rattle.std.specs.Prelude.{List, [], ◌∷◌, ℕ, Float, length, replicate}
+use Rattle.std.specs.Prelude.{List, [], ◌∷◌, ℕ, Float, length, replicate, Result, Ok, Err}
 use Rattle.numerics.specs.Double.{+0, pick}
+use Rattle.gerg_refusals.specs.declared.Refusal.{Refusal}
+use Rattle.gerg_refusals.specs.declared.Refusal.TheVariants as refusal
 use Rattle.gerg_tables.specs.declared.Tables.{Tables}
 use Rattle.gerg_reducing.specs.declared.GergModel.{GergModel}
 use Rattle.gerg.specs.declared.GergState.{GergState}
 use Rattle.gerg.specs.declared.Range.{Range}
-use Rattle.gerg.specs.declared.evaluate.EvaluateAnswer.{EvaluateAnswer}
-use Rattle.gerg.specs.declared.evaluate.EvaluateAnswer.TheVariants as evaluated
-use Rattle.gerg_fugacity.specs.declared.fugacity.FugacityCheck.{FugacityCheck}
-use Rattle.gerg_fugacity.specs.declared.fugacity.FugacityCheck.TheVariants as checked
 use Rattle.gerg.specs.Evaluate.{evaluate_of}
 use Rattle.gerg_fugacity.specs.Fugacity.{fugacity_of, fugacity_memory}
 use Rattle.gerg_grid.specs.Grid.{grid_of}
 use Rattle.gerg_scan_steps.specs.Scan.{scan_of}
 use Rattle.gerg_scan.specs.Sampling.{sample_of}
-use Rattle.gerg_root_list.specs.declared.RootsAnswer.{RootsAnswer}
-use Rattle.gerg_root_list.specs.declared.RootsAnswer.TheVariants.{Refused}
-use Rattle.gerg_fugacity.specs.FugacityNumbers as fugacity
-use Rattle.gerg.specs.EvaluateNumbers as evaluate
-use Rattle.gerg_root_list.specs.RootList.{beyond_five, within_envelope, Outcome, Kept, answer_of, memory_by, found_of, found, stopped}
+use Rattle.gerg_root_list.specs.RootList.{beyond_five, within_envelope, Outcome, Kept, answer_of, memory_by, found_of}
 
 -- "Each root writes density, pressure, Z, Gibbs energy, then the coefficients"
 unfoldable pub head_of : Float → GergState → List Float
 head_of rho s = rho ∷ s.pressure_pa ∷ s.compressibility ∷ s.gibbs_energy ∷ []
 
-unfoldable pub checked_of : Tables → GergModel → List (List Float) → Float → Float → GergState → FugacityCheck → Outcome
-checked_of t m gradients temperature rho s checked.Sound = found (head_of rho s) (fugacity_memory t m gradients s temperature rho (replicate 21 +0))
-checked_of t m gradients temperature rho s (checked.Refused number value) = stopped (fugacity.number_of (checked.Refused number value))
+unfoldable pub checked_of : Tables → GergModel → List (List Float) → Float → Float → GergState → Result (Unit {0}) Refusal → Outcome
+checked_of t m gradients temperature rho s (Ok passed) = Ok (record { head = head_of rho s; coefficients = fugacity_memory t m gradients s temperature rho (replicate 21 +0) })
+checked_of t m gradients temperature rho s (Err r) = Err r
 
-unfoldable pub state_of : Tables → GergModel → List (List Float) → Float → Float → EvaluateAnswer → Outcome
-state_of t m gradients temperature rho (evaluated.State s) = checked_of t m gradients temperature rho s (fugacity_of t m gradients s temperature rho)
-state_of t m gradients temperature rho (evaluated.Refused n) = stopped (evaluate.number_of (evaluated.Refused n))
+unfoldable pub state_of : Tables → GergModel → List (List Float) → Float → Float → Result GergState Refusal → Outcome
+state_of t m gradients temperature rho (Ok s) = checked_of t m gradients temperature rho s (fugacity_of t m gradients s temperature rho)
+state_of t m gradients temperature rho (Err r) = Err r
 
 -- the state at a root's density, then its fugacity coefficients
 unfoldable pub root_at : Tables → GergModel → List (List Float) → Range → Float → Float → Outcome
@@ -41,10 +35,10 @@ unfoldable pub searched_of : Tables → GergModel → List (List Float) → Rang
 searched_of t m gradients range temperature target =
     found_of (root_at t m gradients range temperature) target (scan_of (sample_of t m range temperature target) target grid_of)
 
-unfoldable pub roots_of : Tables → GergModel → List (List Float) → Range → Float → Float → ℕ → RootsAnswer
+unfoldable pub roots_of : Tables → GergModel → List (List Float) → Range → Float → Float → ℕ → Result ℕ Refusal
 roots_of t m gradients range temperature target lent =
-    pick (beyond_five m) (Refused 20 0)
-    (pick (within_envelope temperature target) (answer_of m lent (searched_of t m gradients range temperature target)) (Refused 21 0))
+    pick (beyond_five m) (Err refusal.BeyondFive)
+    (pick (within_envelope temperature target) (answer_of m lent (searched_of t m gradients range temperature target)) (Err refusal.OutsideEnvelope))
 
 -- the lent answer afterwards
 unfoldable pub roots_memory : Tables → GergModel → List (List Float) → Range → Float → Float → List Float → List Float

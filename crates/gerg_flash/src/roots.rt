@@ -1,137 +1,75 @@
 // The exterior roots: the tests that come first, the search, and the answer in lent memory.
+#![tactic(auto, unfolding(crate::specs::Roots::searched_of, crate::specs::Roots::roots_of, crate::specs::Roots::roots_memory, gerg_root_list::specs::RootList::found_of, gerg_root_list::specs::RootList::memory_by))]
 
 ghost use Rattle.std.specs.Prelude.{◌≡◌, length};
-ghost use Rattle.gerg_tables.specs.Tables.{tables, Shaped};
-ghost use Rattle.gerg_reducing.specs.Listed.{Listed};
+ghost use Rattle.gerg_tables.specs.Lent.{lent};
+ghost use Rattle.gerg_scan_steps.specs.Answers.{leaves};
+ghost use Rattle.gerg_grid.specs.Grid.{grid_of};
 ghost use Rattle.gerg_flash.specs.Roots as is;
-ghost use Rattle.gerg_root_list.specs.RootList.{answer_of, memory_by};
-ghost use Rattle.gerg_grid.specs.GridArray.{HoldsGrid};
-ghost use Rattle.gerg_root_list.specs.RootsArrays.{Settles};
-ghost use Rattle.gerg_flash.specs.SoughtRoots.{searched_for};
 
 use crate::settle;
 use gerg::Range;
 use gerg_grid::grid;
 use gerg_isotherm::isotherm;
-use gerg_reducing::GergModel;
-use gerg_root_list::{RootsAnswer, Settled, answer, envelope};
+use gerg_isotherm::lent::Isotherm;
+use gerg_reducing::lent::Mixture;
+use gerg_refusals::Refusal;
+use gerg_root_list::{Roots, answer, envelope};
 use gerg_scan::{Sought, sampling};
 
-// The scan over a grid that is lent, then its roots, which stay in the fronts of two lent arrays; the isotherm is worked out once.
-pub fn exterior_roots<'a>(
-    heads: &mut [[f64; 4]; 386],
-    coefficients: &mut [[f64; 21]; 386],
-    points: &'a [f64; 386],
-    count: usize,
-    doubles: &'a [f64; 4086],
-    integers: &'a [u8; 1631],
-    gradients: &'a [[f64; 21]; 2],
-    sought: Sought,
-) -> Settled
-    requires { (length heads.old ≡ 386) × (length coefficients.old ≡ 386) × HoldsGrid points.now count × Shaped (tables doubles.now integers.now) × Listed sought.model }
-    ensures { Settles (searched_for (tables doubles.now integers.now) gradients.now sought) result
-        heads.new coefficients.new }
+// The roots of a pressure at a temperature, which take the place of those in the vector; a refusal leaves some of them there. The isotherm
+// is worked out once.
+pub fn exterior_roots(
+    grid: &[f64],
+    mixture: Mixture,
+    range: Range,
+    temperature: f64,
+    pressure: f64,
+    roots: &mut Roots,
+) -> Result<(), Refusal>
+    requires { grid.now ≡ grid_of }
+    ensures { leaves result roots.new.items ≡ is.searched_of (lent mixture.entry.coefficients) mixture.entry.model.now mixture.entry.gradients.now range temperature pressure }
 {
-    let model = sought.model;
-    let cells = isotherm::isotherm(doubles, integers, model, sought.temperature);
-    let mut densities = [0.0; 386];
-    let mut residuals = [0.0; 386];
-    let scanned = sampling::scan(
-        points,
-        count,
-        &mut densities,
-        &mut residuals,
-        doubles,
-        integers,
-        &cells,
-        sought,
-    );
-    if scanned.refused != 0 {
-        return Settled {
-            count: 0,
-            refused: scanned.refused,
-        };
-    }
-    settle::settle(
-        scanned,
-        &densities,
-        &residuals,
-        heads,
+    let coefficients = mixture.coefficients;
+    let cells = isotherm::isotherm(coefficients, mixture.model, temperature);
+    let isotherm = Isotherm {
         coefficients,
-        doubles,
-        integers,
-        &cells,
-        gradients,
-        sought,
-    )
-}
-
-// The answer after rows 20 and 21.
-fn search<'a>(
-    doubles: &'a [f64; 4086],
-    integers: &'a [u8; 1631],
-    gradients: &'a [[f64; 21]; 2],
-    sought: Sought,
-    out: &mut [f64],
-) -> RootsAnswer
-    requires { Shaped (tables doubles.now integers.now) × Listed sought.model }
-    ensures answer { result ≡ answer_of sought.model (length out.old) (searched_for (tables doubles.now integers.now) gradients.now sought) }
-    ensures memory { out.new ≡ memory_by sought.model (searched_for (tables doubles.now integers.now) gradients.now sought)
-        (answer_of sought.model (length out.old) (searched_for (tables doubles.now integers.now) gradients.now sought)) out.old }
-{
-    let g = grid::grid();
-    let points = g.points;
-    let mut heads = [[0.0; 4]; 386];
-    let mut coefficients = [[0.0; 21]; 386];
-    let s = exterior_roots(
-        &mut heads,
-        &mut coefficients,
-        &points,
-        g.count,
-        doubles,
-        integers,
-        gradients,
-        sought,
-    );
-    let model = sought.model;
-    answer::finish(s, &heads, &coefficients, model, out)
+        model: mixture.model,
+        temperature,
+        cells: &cells,
+    };
+    let sought = Sought {
+        isotherm,
+        gradients: mixture.gradients,
+        range,
+        pressure,
+    };
+    let scan = sampling::scan(grid, sought)?;
+    settle::settle(&scan, sought, roots)
 }
 
 // The roots of the pressure on the two exterior branches. Each writes density, pressure, Z, Gibbs energy and its coefficients to `out`;
 // a refusal leaves `out` as lent.
-pub fn outer_roots<'a>(
-    doubles: &'a [f64; 4086],
-    integers: &'a [u8; 1631],
-    gradients: &'a [[f64; 21]; 2],
-    model: GergModel,
+pub fn outer_roots(
+    mixture: Mixture,
     range: Range,
     temperature: f64,
     pressure: f64,
     out: &mut [f64],
-) -> RootsAnswer
-    requires { Shaped (tables doubles.now integers.now) × Listed model }
-    ensures answer { result ≡ is.roots_of (tables doubles.now integers.now) model gradients.now range temperature pressure (length out.old) }
-    ensures memory { out.new ≡ is.roots_memory (tables doubles.now integers.now) model gradients.now range temperature pressure out.old }
+) -> Result<usize, Refusal>
+    ensures answer { result ≡ is.roots_of (lent mixture.entry.coefficients) mixture.entry.model.now mixture.entry.gradients.now range temperature pressure (length out.old) }
+    ensures memory { out.new ≡ is.roots_memory (lent mixture.entry.coefficients) mixture.entry.model.now mixture.entry.gradients.now range temperature pressure out.old }
 {
-    let beyond = envelope::beyond_five(model);
+    let beyond = envelope::beyond_five(mixture.model);
     let within = envelope::within_envelope(temperature, pressure);
     if beyond {
-        return RootsAnswer::Refused {
-            number: 20,
-            value: 0,
-        };
+        return Err(Refusal::BeyondFive);
     }
-    if within {
-        let sought = Sought {
-            model,
-            range,
-            temperature,
-            pressure,
-        };
-        return search(doubles, integers, gradients, sought, out);
+    if !within {
+        return Err(Refusal::OutsideEnvelope);
     }
-    RootsAnswer::Refused {
-        number: 21,
-        value: 0,
-    }
+    let points = grid::grid();
+    let mut roots = Roots::new();
+    let searched = exterior_roots(&points, mixture, range, temperature, pressure, &mut roots);
+    answer::finish(searched, &roots, mixture.model, out)
 }

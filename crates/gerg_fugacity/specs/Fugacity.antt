@@ -1,5 +1,5 @@
 -- Fugacity coefficients: ln φ of each listed component.
-use Rattle.std.specs.Prelude.{List, [], ℕ, Float, get_or, replicate}
+use Rattle.std.specs.Prelude.{List, [], ℕ, Float, get_or, replicate, Result, Err}
 use Rattle.std.specs.Float.{nan}
 use Rattle.numerics.specs.Double.{◌⊕◌, ◌⊖◌, ◌⊗◌, ◌⊘◌, +0, pick}
 use Rattle.numerics.specs.Iterate.{iter}
@@ -13,8 +13,9 @@ use Rattle.gerg_reducing.specs.declared.GergModel.{GergModel}
 use Rattle.gerg_derivatives.specs.declared.derivatives.GergDerivatives.{GergDerivatives}
 use Rattle.gerg.specs.declared.GergState.{GergState}
 use Rattle.gerg_composition.specs.Composition.{composition}
-use Rattle.gerg_fugacity.specs.declared.fugacity.FugacityCheck.{FugacityCheck}
-use Rattle.gerg_fugacity.specs.declared.fugacity.FugacityCheck.TheVariants.{Sound, Refused}
+use Rattle.gerg_refusals.specs.Answer.{passed}
+use Rattle.gerg_refusals.specs.declared.Refusal.{Refusal}
+use Rattle.gerg_refusals.specs.declared.Refusal.TheVariants as refusal
 
 -- what component i adds through the reducing volume (row 0) and temperature (row 1)
 unfoldable pub through_reducing : GergModel → List (List Float) → GergDerivatives → ℕ → List Float → List Float
@@ -47,8 +48,8 @@ unfoldable pub ln_phis : Tables → GergModel → List (List Float) → GergStat
 ln_phis t m gradients s T rho = filled (ln_phi_at m s (molar_gradient t m gradients s.derivatives T rho)) m.components (replicate 21 +0)
 
 -- "a fugacity coefficient .. nonfinite: 12"
-unfoldable pub fugacity_of : Tables → GergModel → List (List Float) → GergState → Float → Float → FugacityCheck
-fugacity_of t m gradients s T rho = pick (all_finite (ln_phis t m gradients s T rho) m.components) Sound (Refused 12 0)
+unfoldable pub fugacity_of : Tables → GergModel → List (List Float) → GergState → Float → Float → Result (Unit {0}) Refusal
+fugacity_of t m gradients s T rho = pick (all_finite (ln_phis t m gradients s T rho) m.components) passed (Err refusal.NotFinite)
 
 -- "doubles of a lent answer past those needed stay as lent"; "Every row leaves all lent memory as it was"
 unfoldable pub fugacity_memory : Tables → GergModel → List (List Float) → GergState → Float → Float → List Float → List Float

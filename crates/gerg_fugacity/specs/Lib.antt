@@ -1,3 +1,2 @@
 -- Fugacity coefficients.
 pub mod Fugacity
-pub mod FugacityNumbers

@@ -1,12 +1,14 @@
 // The grid of densities, in mol/m³.
+#![tactic(auto, unfolding(crate::specs::Grid::logarithmic_point, crate::specs::Grid::even_point, crate::specs::Grid::clamped, crate::specs::Grid::point_at, crate::specs::Grid::same_as_last, crate::specs::Grid::kept))]
 
-ghost use Rattle.std.specs.Prelude.{◌≡◌, true, ◌+◌, ◌<◌, take, length};
+ghost use Rattle.std.specs.Prelude.{◌≡◌, ◌<◌};
+ghost use Rattle.arrayvec.specs.ArrayVec.{array_vec_len};
 ghost use Rattle.numerics.specs.Double.{◌⊘◌};
 ghost use Rattle.elementary_ln.specs.Ln.{ln_of};
-ghost use Rattle.gerg_grid.specs.Grid.{lowest, highest, logarithmic_point, even_point, clamped, point_at, sorted_points, same_as_last};
-ghost use Rattle.gerg_grid.specs.GridArray.{insert_from, Kept, HoldsGrid};
+ghost use Rattle.gerg_grid.specs.Grid.{lowest, highest, logarithmic_point, even_point, clamped, point_at, sorted_points, same_as_last, kept, grid_of};
+ghost use Rattle.gerg_grid.specs.GridArray.{insert_from};
 
-use crate::GridPoints;
+use crate::Points;
 use elementary_exp::exp;
 use elementary_ln::ln;
 
@@ -55,14 +57,12 @@ fn insert(a: &mut [f64; 386], n: usize, v: f64)
     requires { n < 386 }
     ensures { a.new ≡ insert_from n v a.old }
 {
-    let mut j = n;
-    while j > 0 {
-        let u = a[j - 1];
+    for j in (0..n).rev() {
+        let u = a[j];
         if v < u {
-            a[j] = u;
-            j = j - 1;
+            a[j + 1] = u;
         } else {
-            a[j] = v;
+            a[j + 1] = v;
             return;
         }
     }
@@ -74,49 +74,41 @@ fn sorted_points() -> [f64; 386]
 {
     let span = ln::ln(HIGHEST / LOWEST);
     let mut a = [0.0; 386];
-    let mut k = 0u32;
-    while k < 386 {
+    for k in 0..386u32 {
         let v = point(k, span);
         insert(&mut a, k as usize, v);
-        k += 1;
     }
     a
 }
 
-// Whether x equals the last of the first n points.
-fn is_last(points: &[f64; 386], n: usize, x: f64) -> bool
-    requires { (n < 386) × (length points.now ≡ 386) }
-    ensures { (result ≡ same_as_last x (take n points.now)) × (result ≡ true → 0 < n) }
+// Whether x equals the last of the points.
+fn is_last(points: &[f64], x: f64) -> bool
+    ensures { result ≡ same_as_last x points.now }
 {
-    if 0 < n {
-        return points[n - 1] == x;
+    match points.last() {
+        None => false,
+        Some(last) => *last == x,
     }
-    false
 }
 
-// x behind the first n points, unless it equals the last of them.
-fn keep(points: &mut [f64; 386], n: usize, x: f64) -> usize
-    requires { (n < 386) × (length points.old ≡ 386) }
-    ensures { Kept x n points.old result points.new }
+// x behind the points, unless it equals the last of them.
+fn keep(points: &mut Points, x: f64)
+    requires { array_vec_len points.old < 386 }
+    ensures { points.new.items ≡ kept x points.old.items }
 {
-    if is_last(points, n, x) {
-        return n;
+    if !is_last(points, x) {
+        points.push(x);
     }
-    points[n] = x;
-    n + 1
 }
 
 // Worked out once for all isotherms.
-pub fn grid() -> GridPoints
-    ensures { HoldsGrid result.points result.count }
+pub fn grid() -> Points
+    ensures { result.items ≡ grid_of }
 {
     let sorted = sorted_points();
-    let mut points = [0.0; 386];
-    let mut n = 0usize;
-    let mut k = 0usize;
-    while k < 386 {
-        n = keep(&mut points, n, sorted[k]);
-        k += 1;
+    let mut points = Points::new();
+    for x in &sorted {
+        keep(&mut points, *x);
     }
-    GridPoints { points, count: n }
+    points
 }

@@ -3,9 +3,7 @@
 
 pub mod grid;
 
-// Densities in rising order; the first `count` places hold them.
-#[derive(Clone, Copy)]
-pub struct GridPoints {
-    pub points: [f64; 386],
-    pub count: usize,
-}
+use arrayvec::ArrayVec;
+
+// Densities in rising order.
+pub type Points = ArrayVec<f64, 386>;

@@ -3,7 +3,7 @@
 --   504 + 12 × m + k, below 624: tau^tijk of term k of departure function m
 --   624 + 15 × i, below 939: five times three numbers of component i's ideal part
 -- A cell that no sum reads holds 0.
-use Rattle.std.specs.Prelude.{◌||◌, List, ◌≡◌, ℕ, zero, suc, ◌+◌, ◌-◌, ◌*◌, leb, Float, get_or, set, replicate}
+use Rattle.std.specs.Prelude.{◌||◌, List, ℕ, zero, suc, ◌+◌, ◌-◌, ◌*◌, leb, Float, get_or, set, replicate}
 use Rattle.std.specs.Float.{nan}
 use Rattle.std.specs.Float.Ieee.{eq}
 use Rattle.numerics.specs.Double.{◌⊗◌, ◌⊘◌, +0, pick}
@@ -15,12 +15,6 @@ use Rattle.gerg_tables.specs.declared.Tables.{Tables}
 use Rattle.gerg_tables.specs.Tables.{n0i, th0i, toik, tijk, kpol, kexp, m_numb, kpolij, kexpij}
 use Rattle.gerg_reducing.specs.declared.GergModel.{GergModel}
 use Rattle.gerg_reducing.specs.Reduced.{absent, tau_of}
-use Rattle.gerg_isotherm.specs.declared.Temperature.{Temperature}
-
--- the logarithms are those of the temperature and of tau
-pub record Logarithms (at : Temperature) : Type 0 where
-  pub of_t : at.ln_t ≡ ln_of at.t
-  pub of_tau : at.ln_tau ≡ ln_of at.tau
 
 -- f 0, f 1, .., f (n - 1) written from a place on
 unfoldable pub written : (ℕ → Float) → ℕ → ℕ → List Float → List Float

@@ -1,3 +1,4 @@
 -- What the derivatives take from the temperature alone.
 pub mod Isotherm
+pub mod Parts
 pub mod Rows

@@ -2,16 +2,19 @@
 ghost use Rattle.std.specs.Prelude.{◌≡◌, ◌+◌, ◌<◌};
 ghost use Rattle.numerics.specs.Iterate.{range};
 ghost use Rattle.elementary_ln.specs.Ln.{ln_of};
-ghost use Rattle.gerg_tables.specs.Tables.{tables, Shaped};
+ghost use Rattle.gerg_tables.specs.Lent.{lent};
 ghost use Rattle.gerg_isotherm.specs.Isotherm as is;
+ghost use Rattle.gerg_isotherm.specs.Parts as is_part;
 
-use super::Temperature;
-use elementary::{hyperbolic, power};
+use crate::part::Part;
+use crate::temperature::Temperature;
+use elementary::power;
 use elementary_ln::ln;
 use gerg_reducing::GergModel;
+use gerg_tables::coefficients::Coefficients;
 use gerg_tables::named;
-use gerg_tables::numbers::wide;
 
+#[tactic(auto, unfolding(crate::specs::Isotherm::written, numerics::specs::Iterate::iter))]
 fn write_three(out: &mut [f64; 939], at: usize, a: f64, b: f64, c: f64)
     requires { at < 937 }
     ensures { out.new ≡ is.written (is.three a b c) at 3 out.old }
@@ -21,8 +24,10 @@ fn write_three(out: &mut [f64; 939], at: usize, a: f64, b: f64, c: f64)
     out[at + 2] = c;
 }
 
-fn sinh_row(
+// The numbers of one part of component i, of n0i and th0i 4 + j, unless that th0i is 0.
+fn part_row(
     out: &mut [f64; 939],
+    part: Part,
     doubles: &[f64; 4086],
     x: f64,
     temperature: f64,
@@ -31,7 +36,7 @@ fn sinh_row(
     at: usize,
 )
     requires { (i < 21) × (j < 4) × (at < 937) }
-    ensures { out.new ≡ is.sinh_row doubles.now x temperature i j at out.old }
+    ensures { out.new ≡ is_part.row part doubles.now x temperature i j at out.old }
 {
     let theta = named::th0i(doubles, i, j);
     if theta == 0.0 {
@@ -39,194 +44,130 @@ fn sinh_row(
     }
     let c = named::n0i(doubles, i, 3 + j);
     let v = theta / temperature;
-    let s = hyperbolic::sinh(v);
+    let s = part.function(v);
     let value = x * c * ln::ln(s);
-    let slope = x * c * v / hyperbolic::tanh(v);
+    let slope = part.slope(x * c * v, v);
     let curvature = x * c * power::powi_byte(v / s, 2);
     write_three(out, at, value, slope, curvature);
 }
 
-fn cosh_row(
-    out: &mut [f64; 939],
-    doubles: &[f64; 4086],
-    x: f64,
-    temperature: f64,
-    i: usize,
-    j: usize,
-    at: usize,
-)
-    requires { (i < 21) × (j < 4) × (at < 937) }
-    ensures { out.new ≡ is.cosh_row doubles.now x temperature i j at out.old }
+// The numbers of component i's ideal part.
+#[tactic(auto, unfolding(crate::specs::Isotherm::ideal_row, crate::specs::Isotherm::base_cell))]
+fn ideal_row(out: &mut [f64; 939], doubles: &[f64; 4086], x: f64, at: Temperature, i: usize)
+    requires { i < 21 }
+    ensures { out.new ≡ is.ideal_row doubles.now x at.t i out.old }
 {
-    let theta = named::th0i(doubles, i, j);
-    if theta == 0.0 {
-        return;
-    }
-    let c = named::n0i(doubles, i, 3 + j);
-    let v = theta / temperature;
-    let s = hyperbolic::cosh(v);
-    let value = x * c * ln::ln(s);
-    let slope = x * c * v * hyperbolic::tanh(v);
-    let curvature = x * c * power::powi_byte(v / s, 2);
-    write_three(out, at, value, slope, curvature);
-}
-
-// The numbers of component i's ideal part; `logarithm` is that of the temperature.
-fn ideal_row(
-    out: &mut [f64; 939],
-    doubles: &[f64; 4086],
-    x: f64,
-    temperature: f64,
-    logarithm: f64,
-    i: usize,
-)
-    requires { (i < 21) × (logarithm ≡ ln_of temperature) }
-    ensures { out.new ≡ is.ideal_row doubles.now x temperature i out.old }
-{
-    let quotient = named::n0i(doubles, i, 1) / temperature;
-    let product = named::n0i(doubles, i, 2) * logarithm;
+    let quotient = named::n0i(doubles, i, 1) / at.t;
+    let product = named::n0i(doubles, i, 2) * at.ln_t;
     let ln_x = ln::ln(x);
     write_three(out, 624 + 15 * i, ln_x, quotient, product);
-    sinh_row(out, doubles, x, temperature, i, 0, 627 + 15 * i);
-    cosh_row(out, doubles, x, temperature, i, 1, 630 + 15 * i);
-    sinh_row(out, doubles, x, temperature, i, 2, 633 + 15 * i);
-    cosh_row(out, doubles, x, temperature, i, 3, 636 + 15 * i);
+    part_row(out, Part::Sinh, doubles, x, at.t, i, 0, 627 + 15 * i);
+    part_row(out, Part::Cosh, doubles, x, at.t, i, 1, 630 + 15 * i);
+    part_row(out, Part::Sinh, doubles, x, at.t, i, 2, 633 + 15 * i);
+    part_row(out, Part::Cosh, doubles, x, at.t, i, 3, 636 + 15 * i);
 }
 
-// tau^toik of each term of component i; `logarithm` is that of tau.
-fn pure_row<'a>(
-    out: &mut [f64; 939],
-    doubles: &'a [f64; 4086],
-    integers: &'a [u8; 1631],
-    tau: f64,
-    logarithm: f64,
-    i: usize,
-)
-    requires { (i < 21) × (logarithm ≡ ln_of tau) × Shaped (tables doubles.now integers.now) }
-    ensures { out.new ≡ is.pure_row (tables doubles.now integers.now) tau i out.old }
+// tau^toik of each term of component i. Its loop and the next read another table into another place: a closure for the exponent makes neither shorter.
+fn pure_row(out: &mut [f64; 939], coefficients: Coefficients, at: Temperature, i: usize)
+    requires { i < 21 }
+    ensures { out.new ≡ is.pure_row (lent coefficients.entry) at.tau i out.old }
 {
-    let n = wide(named::kpol(integers, i)) + wide(named::kexp(integers, i));
-    let mut k = 0usize;
-    while k < n {
-        out[24 * i + k] = power::powf_of_ln(tau, logarithm, named::toik(doubles, i, k));
-        k += 1;
+    let n = coefficients.pure_terms(i);
+    for k in 0..n {
+        let exponent = named::toik(coefficients.doubles, i, k);
+        out[24 * i + k] = power::powf_of_ln(at.tau, at.ln_tau, exponent);
     }
 }
 
 // tau^tijk of each term of departure function m.
-fn departure_row<'a>(
-    out: &mut [f64; 939],
-    doubles: &'a [f64; 4086],
-    integers: &'a [u8; 1631],
-    tau: f64,
-    logarithm: f64,
-    m: usize,
-)
-    requires { (m < 10) × (logarithm ≡ ln_of tau) × Shaped (tables doubles.now integers.now) }
-    ensures { out.new ≡ is.departure_row (tables doubles.now integers.now) tau m out.old }
+fn departure_row(out: &mut [f64; 939], coefficients: Coefficients, at: Temperature, m: usize)
+    requires { m < 10 }
+    ensures { out.new ≡ is.departure_row (lent coefficients.entry) at.tau m out.old }
 {
-    let n = wide(named::kpolij(integers, m)) + wide(named::kexpij(integers, m));
-    let mut k = 0usize;
-    while k < n {
-        out[504 + 12 * m + k] = power::powf_of_ln(tau, logarithm, named::tijk(doubles, m, k));
-        k += 1;
+    let n = coefficients.departure_terms(m);
+    for k in 0..n {
+        let exponent = named::tijk(coefficients.doubles, m, k);
+        out[504 + 12 * m + k] = power::powf_of_ln(at.tau, at.ln_tau, exponent);
     }
 }
 
 // Those that the pair i, j uses.
-fn pair_row<'a>(
+#[tactic(auto, using(crate::proofs::Laws::Rows::has_function, crate::proofs::Laws::Rows::has_none), unfolding(crate::specs::Isotherm::pair_row))]
+fn pair_row(
     out: &mut [f64; 939],
-    doubles: &'a [f64; 4086],
-    integers: &'a [u8; 1631],
-    x: &'a [f64; 21],
-    tau: f64,
-    logarithm: f64,
+    coefficients: Coefficients,
+    x: &[f64; 21],
+    at: Temperature,
     i: usize,
     j: usize,
 )
-    requires { (i < j) × (j < 21) × (logarithm ≡ ln_of tau) × Shaped (tables doubles.now integers.now) }
-    ensures { out.new ≡ is.pair_row (tables doubles.now integers.now) x.now tau i j out.old }
+    requires { (i < j) × (j < 21) }
+    ensures { out.new ≡ is.pair_row (lent coefficients.entry) x.now at.tau i j out.old }
 {
-    let number = named::m_numb(integers, i, j);
-    if (x[j] == 0.0) | (128 <= number) {
+    let Some(m) = coefficients.departure_function(i, j) else {
+        return;
+    };
+    if x[j] == 0.0 {
         return;
     }
-    let m = wide(number) - 1;
-    departure_row(out, doubles, integers, tau, logarithm, m);
+    departure_row(out, coefficients, at, m);
 }
 
-fn pair_rows<'a>(
+fn pair_rows(
     out: &mut [f64; 939],
-    doubles: &'a [f64; 4086],
-    integers: &'a [u8; 1631],
-    x: &'a [f64; 21],
-    tau: f64,
-    logarithm: f64,
-    i: usize,
-)
-    requires { (i < 21) × (logarithm ≡ ln_of tau) × Shaped (tables doubles.now integers.now) }
-    ensures { out.new ≡ range (is.pair_row (tables doubles.now integers.now) x.now tau i) (i + 1) 21 out.old }
-{
-    for j in i + 1..21 {
-        pair_row(out, doubles, integers, x, tau, logarithm, i, j);
-    }
-}
-
-fn component_rows<'a>(
-    out: &mut [f64; 939],
-    doubles: &'a [f64; 4086],
-    integers: &'a [u8; 1631],
-    x: &'a [f64; 21],
+    coefficients: Coefficients,
+    x: &[f64; 21],
     at: Temperature,
     i: usize,
 )
-    requires { (i < 21) × is.Logarithms at × Shaped (tables doubles.now integers.now) }
-    ensures { out.new ≡ is.component_rows (tables doubles.now integers.now) x.now at.t at.tau i out.old }
+    requires { i < 21 }
+    ensures { out.new ≡ range (is.pair_row (lent coefficients.entry) x.now at.tau i) (i + 1) 21 out.old }
+{
+    for j in i + 1..21 {
+        pair_row(out, coefficients, x, at, i, j);
+    }
+}
+
+#[tactic(auto, unfolding(crate::specs::Isotherm::component_rows))]
+fn component_rows(
+    out: &mut [f64; 939],
+    coefficients: Coefficients,
+    x: &[f64; 21],
+    at: Temperature,
+    i: usize,
+)
+    requires { i < 21 }
+    ensures { out.new ≡ is.component_rows (lent coefficients.entry) x.now at.t at.tau i out.old }
 {
     let xi = x[i];
     if xi == 0.0 {
         return;
     }
-    pure_row(out, doubles, integers, at.tau, at.ln_tau, i);
-    ideal_row(out, doubles, xi, at.t, at.ln_t, i);
-    pair_rows(out, doubles, integers, x, at.tau, at.ln_tau, i);
+    pure_row(out, coefficients, at, i);
+    ideal_row(out, coefficients.doubles, xi, at, i);
+    pair_rows(out, coefficients, x, at, i);
 }
 
-fn all_rows<'a>(
-    out: &mut [f64; 939],
-    doubles: &'a [f64; 4086],
-    integers: &'a [u8; 1631],
-    x: &'a [f64; 21],
-    at: Temperature,
-)
-    requires { is.Logarithms at × Shaped (tables doubles.now integers.now) }
-    ensures { out.new ≡ is.all_rows (tables doubles.now integers.now) x.now at.t at.tau out.old }
+fn all_rows(out: &mut [f64; 939], coefficients: Coefficients, x: &[f64; 21], at: Temperature)
+    ensures { out.new ≡ is.all_rows (lent coefficients.entry) x.now at.t at.tau out.old }
 {
     for i in 0..21 {
-        component_rows(out, doubles, integers, x, at, i);
+        component_rows(out, coefficients, x, at, i);
     }
 }
 
-pub fn isotherm<'a>(
-    doubles: &'a [f64; 4086],
-    integers: &'a [u8; 1631],
-    model: GergModel,
-    temperature: f64,
-) -> [f64; 939]
-    requires { Shaped (tables doubles.now integers.now) }
-    ensures { result ≡ is.isotherm_of (tables doubles.now integers.now) model temperature }
+#[tactic(auto, unfolding(crate::specs::Isotherm::isotherm_of, crate::specs::Isotherm::zero_cells))]
+pub fn isotherm(coefficients: Coefficients, model: &GergModel, temperature: f64) -> [f64; 939]
+    ensures { result ≡ is.isotherm_of (lent coefficients.entry) model.now temperature }
 {
-    let x = model.fractions;
     let tau = model.reducing_temperature / temperature;
-    let ln_t = ln::ln(temperature);
-    let ln_tau = ln::ln(tau);
     let at = Temperature {
         t: temperature,
-        ln_t,
+        ln_t: ln::ln(temperature),
         tau,
-        ln_tau,
+        ln_tau: ln::ln(tau),
     };
     let mut out = [0.0; 939];
-    all_rows(&mut out, doubles, integers, &x, at);
+    all_rows(&mut out, coefficients, &model.fractions, at);
     out
 }

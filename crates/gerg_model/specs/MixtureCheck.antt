@@ -1,12 +1,12 @@
 -- Rows 3 and 4: the component list and the fractions.
-use Rattle.std.specs.Prelude.{Bool, not, ◌&&◌, ◌||◌, List, ℕ, zero, suc, ◌+◌, leb, ltb, eqb, Float, length, get_or}
+use Rattle.std.specs.Prelude.{Bool, not, ◌&&◌, ◌||◌, List, ℕ, zero, suc, ◌+◌, leb, ltb, eqb, Float, length, get_or, Result, Ok, Err}
 use Rattle.std.specs.Float.{nan}
 use Rattle.std.specs.Float.Ieee.{lt, le, neg}
 use Rattle.std.specs.Float.Ieee.Scale.{finite}
 use Rattle.numerics.specs.Double.{◌⊕◌, ◌⊖◌, bits, +0, one, pick}
 use Rattle.numerics.specs.Iterate.{iter}
-use Rattle.gerg_model.specs.declared.mixture.MixtureCheck.{MixtureCheck}
-use Rattle.gerg_model.specs.declared.mixture.MixtureCheck.TheVariants.{Sound, Refused}
+use Rattle.gerg_refusals.specs.declared.Refusal.{Refusal}
+use Rattle.gerg_refusals.specs.declared.Refusal.TheVariants.{Components, Fractions}
 
 -- the first place, of n from k on, that the test holds of; k + n where it holds of none
 unfoldable pub first_place : (ℕ → Bool) → ℕ → ℕ → ℕ
@@ -36,10 +36,10 @@ unfoldable pub adds_up : List Float → Bool
 adds_up fractions = le (neg sum_tolerance) (sum_of fractions ⊖ one) && le (sum_of fractions ⊖ one) sum_tolerance
 
 -- "component list empty, over 21, number unknown or repeated: 3, first bad place from 0"; then "length differs (list length), then nonfinite or negative (first bad place), then bad sum (list length): 4"
-unfoldable pub check_of : List ℕ → List Float → MixtureCheck
+unfoldable pub check_of : List ℕ → List Float → Result (Unit {0}) Refusal
 check_of list fractions =
-    pick (eqb (length list) 0) (Refused 3 0)
-    (pick (ltb (first_place (bad_number list) (length list) 0) (length list)) (Refused 3 (first_place (bad_number list) (length list) 0))
-    (pick (not (eqb (length fractions) (length list))) (Refused 4 (length list))
-    (pick (ltb (first_place (bad_fraction fractions) (length fractions) 0) (length fractions)) (Refused 4 (first_place (bad_fraction fractions) (length fractions) 0))
-    (pick (adds_up fractions) Sound (Refused 4 (length list))))))
+    pick (eqb (length list) 0) (Err (Components 0))
+    (pick (ltb (first_place (bad_number list) (length list) 0) (length list)) (Err (Components (first_place (bad_number list) (length list) 0)))
+    (pick (not (eqb (length fractions) (length list))) (Err (Fractions (length list)))
+    (pick (ltb (first_place (bad_fraction fractions) (length fractions) 0) (length fractions)) (Err (Fractions (first_place (bad_fraction fractions) (length fractions) 0)))
+    (pick (adds_up fractions) (Ok tt) (Err (Fractions (length list)))))))

@@ -6,31 +6,20 @@ ghost use Rattle.gerg_model.specs.MixtureCheck as check;
 ghost use Rattle.gerg_model.specs.Accepted.{KnownList, Accepted};
 ghost use Rattle.gerg_model.specs.Mixture as mix;
 
-use gerg_reducing::{GergModel, reducing};
+use gerg_reducing::reducing::reducing;
+use gerg_reducing::{GergModel, Reduced};
+use gerg_refusals::Refusal;
 use gerg_tables::{named, numbers};
-
-#[derive(Clone, Copy)]
-pub enum MixtureCheck {
-    Sound,
-    // the refusal's number and value
-    Refused { number: u8, value: usize },
-}
 
 // The first of k places that holds the number, or k.
 fn first_same(list: &[u8], number: u8, k: usize) -> usize
     requires { k ≤ length list.now }
     ensures { result ≡ check.first_place (λ j. eqb (get_or list.now j 0) number) k 0 }
 {
-    let mut j = 0;
-    while j < k {
-        if list[j] == number {
-            return j;
-        }
-        j += 1;
-    }
-    j
+    list[..k].iter().position(|x| *x == number).unwrap_or(k)
 }
 
+#[tactic(auto, unfolding(crate::specs::MixtureCheck::bad_number))]
 fn bad_number(list: &[u8], k: usize) -> bool
     requires { k < length list.now }
     ensures { result ≡ check.bad_number list.now k }
@@ -44,49 +33,31 @@ fn bad_number(list: &[u8], k: usize) -> bool
 pub fn first_bad_number(list: &[u8]) -> usize
     ensures { result ≡ check.first_place (check.bad_number list.now) (length list.now) 0 }
 {
-    let mut k = 0;
-    while k < list.len() {
-        if bad_number(list, k) {
-            return k;
-        }
-        k += 1;
-    }
-    k
-}
-
-fn bad_fraction(fractions: &[f64], k: usize) -> bool
-    requires { k < length fractions.now }
-    ensures { result ≡ check.bad_fraction fractions.now k }
-{
-    let x = fractions[k];
-    !numbers::is_finite(x) | (x < 0.0)
+    (0..list.len())
+        .position(|k| bad_number(list, k))
+        .unwrap_or(list.len())
 }
 
 fn first_bad_fraction(fractions: &[f64]) -> usize
     ensures { result ≡ check.first_place (check.bad_fraction fractions.now) (length fractions.now) 0 }
 {
-    let mut k = 0;
-    while k < fractions.len() {
-        if bad_fraction(fractions, k) {
-            return k;
-        }
-        k += 1;
-    }
-    k
+    fractions
+        .iter()
+        .position(|x| !numbers::is_finite(*x) | (*x < 0.0))
+        .unwrap_or(fractions.len())
 }
 
 fn sum_of(fractions: &[f64]) -> f64
     ensures { result ≡ check.sum_of fractions.now }
 {
     let mut sum = 0.0;
-    let mut k = 0;
-    while k < fractions.len() {
-        sum = sum + fractions[k];
-        k += 1;
+    for x in fractions {
+        sum += *x;
     }
     sum
 }
 
+#[tactic(auto, unfolding(crate::specs::MixtureCheck::adds_up))]
 fn adds_up(fractions: &[f64]) -> bool
     ensures { result ≡ check.adds_up fractions.now }
 {
@@ -95,42 +66,28 @@ fn adds_up(fractions: &[f64]) -> bool
 }
 
 // Rows 3 and 4, in their order.
-pub fn check_mixture(list: &[u8], fractions: &[f64]) -> MixtureCheck
+#[tactic(auto, unfolding(crate::specs::MixtureCheck::check_of))]
+pub fn check_mixture(list: &[u8], fractions: &[f64]) -> Result<(), Refusal>
     ensures { result ≡ check.check_of list.now fractions.now }
 {
-    if list.len() == 0 {
-        return MixtureCheck::Refused {
-            number: 3,
-            value: 0,
-        };
+    if list.is_empty() {
+        return Err(Refusal::Components { place: 0 });
     }
     let number = first_bad_number(list);
     if number < list.len() {
-        return MixtureCheck::Refused {
-            number: 3,
-            value: number,
-        };
+        return Err(Refusal::Components { place: number });
     }
     if fractions.len() != list.len() {
-        return MixtureCheck::Refused {
-            number: 4,
-            value: list.len(),
-        };
+        return Err(Refusal::Fractions { place: list.len() });
     }
     let fraction = first_bad_fraction(fractions);
     if fraction < fractions.len() {
-        return MixtureCheck::Refused {
-            number: 4,
-            value: fraction,
-        };
+        return Err(Refusal::Fractions { place: fraction });
     }
-    if adds_up(fractions) {
-        return MixtureCheck::Sound;
+    if !adds_up(fractions) {
+        return Err(Refusal::Fractions { place: list.len() });
     }
-    MixtureCheck::Refused {
-        number: 4,
-        value: list.len(),
-    }
+    Ok(())
 }
 
 fn by_component(list: &[u8], fractions: &[f64]) -> [f64; 21]
@@ -138,10 +95,8 @@ fn by_component(list: &[u8], fractions: &[f64]) -> [f64; 21]
     ensures { result ≡ mix.by_component list.now fractions.now }
 {
     let mut x = [0.0; 21];
-    let mut k = 0;
-    while k < list.len() {
-        x[numbers::wide(list[k]) - 1] = fractions[k];
-        k += 1;
+    for (number, fraction) in list.iter().zip(fractions) {
+        x[usize::from(*number) - 1] = *fraction;
     }
     x
 }
@@ -151,10 +106,8 @@ fn indices(list: &[u8]) -> [u8; 21]
     ensures { result ≡ mix.indices_of list.now }
 {
     let mut a = [0u8; 21];
-    let mut k = 0;
-    while k < list.len() {
-        a[k] = list[k] - 1;
-        k += 1;
+    for (k, number) in list.iter().enumerate() {
+        a[k] = *number - 1;
     }
     a
 }
@@ -164,28 +117,29 @@ fn molar_mass(doubles: &[f64; 4086], x: &[f64; 21]) -> f64
 {
     let mut mass = 0.0;
     for i in 0..21 {
-        mass = mass + x[i] * named::mmi_gerg(doubles, i) / 1000.0;
+        mass += x[i] * named::mmi_gerg(doubles, i) / 1000.0;
     }
     mass
 }
 
 // The model of a list and fractions that passed.
+#[tactic(auto, unfolding(crate::specs::Mixture::model_of))]
 pub fn model(doubles: &[f64; 4086], list: &[u8], fractions: &[f64]) -> GergModel
     requires { Accepted list.now fractions.now }
     ensures { result ≡ mix.model_of doubles.now list.now fractions.now }
 {
     let x = by_component(list, fractions);
     let component_indices = indices(list);
-    let temperature = reducing::reducing(doubles, &x, 1);
-    let volume = reducing::reducing(doubles, &x, 0);
-    let mass = molar_mass(doubles, &x);
+    let reducing_temperature = reducing(doubles, &x, Reduced::Temperature);
+    let reducing_density = 1000.0 / reducing(doubles, &x, Reduced::Volume);
+    let molar_mass = molar_mass(doubles, &x);
     GergModel {
         fractions: x,
         component_indices,
         components: list.len(),
-        reducing_temperature: temperature,
-        reducing_density: 1000.0 / volume,
-        molar_mass: mass,
+        reducing_temperature,
+        reducing_density,
+        molar_mass,
     }
 }
 
@@ -194,17 +148,14 @@ pub fn first_nonfinite(values: &[f64; 21], n: usize) -> usize
     requires { n ≤ 21 }
     ensures { result ≡ check.first_place (mix.nonfinite_at values.now) n 0 }
 {
-    let mut k = 0;
-    while k < n {
-        if !numbers::is_finite(values[k]) {
-            return k;
-        }
-        k += 1;
-    }
-    k
+    values[..n]
+        .iter()
+        .position(|x| !numbers::is_finite(*x))
+        .unwrap_or(n)
 }
 
 // Row 5: whether the reducing values are finite and positive and the gradients finite.
+#[tactic(auto, unfolding(crate::specs::Mixture::reducing_sound, crate::specs::Mixture::all_finite))]
 pub fn reducing_sound(model: GergModel, gradients: &[[f64; 21]; 2]) -> bool
     ensures { result ≡ mix.reducing_sound model gradients.now }
 {

@@ -8,6 +8,7 @@ use native.Mathlib.Nat.{le_trans, lt_of_le_of_lt}
 use lib.Dec.{T, lit≤, lit<}
 use lib.Ieee.{Float, binary64, fits}
 use lib.ListN.{length}
+use Rattle.std.specs.Prelude.{Some, None, Ok}
 use Rattle.numerics.specs.Double.{pick}
 use Rattle.gerg_tables.specs.declared.Tables.{Tables}
 use Rattle.gerg_reducing.specs.declared.GergModel.{GergModel}
@@ -15,14 +16,13 @@ use Rattle.gerg.specs.declared.Range.{Range}
 use Rattle.gerg_saturation.specs.Checks.{positive_fractions, saturation_refused}
 use Rattle.gerg_saturation.specs.Halvings.{trials_of}
 use Rattle.gerg_ph.specs.Saturation.{verdict_at, interval_of, pure_saturation_of, saturation_trials}
-use Rattle.gerg_saturation.specs.SaturationNumbers.{number_of, value_of}
+use Rattle.gerg_refusals.specs.Answer.{number_of, value_of}
+use Rattle.gerg_saturation.specs.Answer.{Tried}
 use Rattle.gerg_saturation.specs.declared.PureSaturation.{PureSaturation}
-use Rattle.gerg_saturation.specs.declared.Verdict.{Verdict}
-use Rattle.gerg_saturation.specs.declared.SaturationAnswer.TheVariants.{Found, NotEnclosed}
 use Rattle.gerg_saturation.proofs.Laws.Bounded.{few_of}
 use Rattle.gerg_saturation.proofs.Laws.Verdicts.{refused_is}
 use Rattle.gerg_ph.proofs.Laws.Ends.{ends_within}
-use Rattle.gerg_ph.proofs.Laws.Answered.{reports}
+use Rattle.gerg_ph.proofs.Laws.LateAnswered.{reports}
 
 module _ (t : Tables) (m : GergModel) (gradients : List (List Float)) (range : Range) (pressure lo hi : Float) (limit : ℕ) where
   -- "A saturation search makes at most 60 trials between its ends, whatever it is given and however it ends"
@@ -30,7 +30,7 @@ module _ (t : Tables) (m : GergModel) (gradients : List (List Float)) (range : R
   unfolding saturation_trials
   at_most_60_trials f g = go (saturation_refused m lo hi) refl
     where
-      v : Float → Verdict
+      v : Float → Tried
       v = verdict_at t m gradients range pressure
 
       go : (a : Bool) → saturation_refused m lo hi ≡ a → length (pick a [] (trials_of v limit (interval_of lo hi))) ≤ 60
@@ -56,5 +56,5 @@ module _ (t : Tables) (m : GergModel) (gradients : List (List Float)) (range : R
   -- number 0 is no refusal's: found, or "not enclosed"
   pub accepted :
       number_of (pure_saturation_of t m gradients range pressure lo hi limit) ≡ 0 →
-      ((s : PureSaturation) × (pure_saturation_of t m gradients range pressure lo hi limit ≡ Found s)) ⊎ (pure_saturation_of t m gradients range pressure lo hi limit ≡ NotEnclosed)
+      ((s : PureSaturation) × (pure_saturation_of t m gradients range pressure lo hi limit ≡ Ok (Some s))) ⊎ (pure_saturation_of t m gradients range pressure lo hi limit ≡ Ok None)
   accepted = (reports t m gradients range pressure lo hi limit).accepted

@@ -1,20 +1,13 @@
--- What the code's struct `Isobar` stands for.
-use Rattle.std.specs.Prelude.{◌≡◌, false, List, ◌<◌, Float}
-use Rattle.gerg_tables.specs.declared.Tables.{Tables}
-use Rattle.gerg_reducing.specs.Listed.{Listed}
-use Rattle.gerg_root_list.specs.RootList.{beyond_five}
-use Rattle.gerg_saturation.specs.Checks.{positive_place}
+-- The sample and the verdict at each temperature of what the code's struct `Isobar` stands for.
+use Rattle.std.specs.Prelude.{Float}
+use Rattle.gerg_tables.specs.Lent.{lent}
+use Rattle.gerg_ph.specs.Sampling.{sample_of}
 use Rattle.gerg_ph.specs.Saturation.{verdict_at}
 use Rattle.gerg_ph.specs.declared.Isobar.{Isobar}
-use Rattle.gerg_saturation.specs.declared.Verdict.{Verdict}
+use Rattle.gerg_saturation.specs.Answer.{Sample, Tried}
 
--- what has been tested before a temperature is tried
-pub record Tested (i : Isobar) : Type 0 where
-  pub listed : Listed i.model
-  pub first_five : beyond_five i.model ≡ false
-  pub place : i.place ≡ positive_place i.model
-  pub small : i.place < 21
+abbrev pub sample_along : Isobar → Float → Sample
+sample_along i = sample_of (lent i.mixture.coefficients) i.mixture.model.now i.mixture.gradients.now i.range i.pressure
 
--- the verdict at each temperature
-abbrev pub verdict_along : Tables → List (List Float) → Isobar → Float → Verdict
-verdict_along t gradients i = verdict_at t i.model gradients i.range i.pressure
+abbrev pub verdict_along : Isobar → Float → Tried
+verdict_along i = verdict_at (lent i.mixture.coefficients) i.mixture.model.now i.mixture.gradients.now i.range i.pressure

@@ -1,4 +1,4 @@
 -- Laws of a prepared model.
 pub mod Laws
 pub mod Numbers
-pub mod Refused
+pub mod Called

@@ -4,7 +4,13 @@ use Rattle.std.specs.Float.{nan}
 use Rattle.std.specs.Float.Ieee.{eq}
 use Rattle.numerics.specs.Double.{◌⊕◌, ◌⊖◌, ◌⊗◌, ◌⊘◌, +0, one, two, pick}
 use Rattle.numerics.specs.Iterate.{iter, range}
+use Rattle.gerg_reducing.specs.declared.Reduced.{Reduced}
+use Rattle.gerg_reducing.specs.declared.Reduced.TheVariants.{Volume, Temperature}
 use Rattle.gerg_tables.specs.Tables.{bvij, btij, gvij, gtij}
+
+abbrev pub row_of : Reduced → ℕ
+row_of Volume = 0
+row_of Temperature = 1
 
 -- "(bvij, gvij) or temperature (btij, gtij)"
 unfoldable pub bij : List Float → ℕ → ℕ → ℕ → Float

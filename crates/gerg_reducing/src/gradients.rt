@@ -1,17 +1,20 @@
 // The gradients of the reducing values by mole fraction: what each pair adds to its two elements.
 ghost use Rattle.std.specs.Prelude.{◌≡◌, ◌<◌};
-ghost use Rattle.gerg_reducing.specs.Reducing.{bumped, first_part, second_part, gradient_pair, gradient_row, gradient_of, gradients_of};
+ghost use Rattle.gerg_reducing.specs.Reducing.{row_of, bumped, first_part, second_part, gradient_pair, gradient_row, gradient_of, gradients_of};
 
+use crate::Reduced;
 use crate::reducing::{b_of_pair, weight_of_pair};
 
 // v added to element i.
+#[tactic(auto, unfolding(crate::specs::Reducing::bumped))]
 fn bump(gradient: &mut [f64; 21], i: usize, v: f64)
     requires { i < 21 }
     ensures { gradient.new ≡ bumped i v gradient.old }
 {
-    gradient[i] = gradient[i] + v;
+    gradient[i] += v;
 }
 
+#[tactic(auto, unfolding(crate::specs::Reducing::first_part))]
 fn first_part(w: f64, b: f64, xi: f64, xj: f64) -> f64
     ensures { result ≡ first_part w b xi xj }
 {
@@ -20,6 +23,7 @@ fn first_part(w: f64, b: f64, xi: f64, xj: f64) -> f64
     w * (xj * (2.0 * xi + xj) - b * quotient) / denominator
 }
 
+#[tactic(auto, unfolding(crate::specs::Reducing::second_part))]
 fn second_part(w: f64, b: f64, xi: f64, xj: f64) -> f64
     ensures { result ≡ second_part w b xi xj }
 {
@@ -29,24 +33,25 @@ fn second_part(w: f64, b: f64, xi: f64, xj: f64) -> f64
 }
 
 // What a pair adds. For a subnormal x_i beside a zero b x_i may be 0, so the limits stand in for 0 / 0.
+#[tactic(auto, unfolding(crate::specs::Reducing::gradient_pair))]
 fn gradient_pair(
     doubles: &[f64; 4086],
     x: &[f64; 21],
-    row: usize,
+    reduced: Reduced,
     i: usize,
     j: usize,
     gradient: &mut [f64; 21],
 )
     requires { (i < 21) × (j < 21) }
-    ensures { gradient.new ≡ gradient_pair doubles.now x.now row i j gradient.old }
+    ensures { gradient.new ≡ gradient_pair doubles.now x.now (row_of reduced) i j gradient.old }
 {
     let xi = x[i];
     let xj = x[j];
     if xi + xj == 0.0 {
         return;
     }
-    let b = b_of_pair(doubles, row, i, j);
-    let w = weight_of_pair(doubles, row, i, j);
+    let b = b_of_pair(doubles, reduced, i, j);
+    let w = weight_of_pair(doubles, reduced, i, j);
     if xj == 0.0 {
         bump(gradient, j, w * xi / b);
         return;
@@ -62,33 +67,34 @@ fn gradient_pair(
 fn gradient_row(
     doubles: &[f64; 4086],
     x: &[f64; 21],
-    row: usize,
+    reduced: Reduced,
     i: usize,
     gradient: &mut [f64; 21],
 )
     requires { i < 21 }
-    ensures { gradient.new ≡ gradient_row doubles.now x.now row i gradient.old }
+    ensures { gradient.new ≡ gradient_row doubles.now x.now (row_of reduced) i gradient.old }
 {
     for j in i..21 {
-        gradient_pair(doubles, x, row, i, j, gradient);
+        gradient_pair(doubles, x, reduced, i, j, gradient);
     }
 }
 
-fn gradient(doubles: &[f64; 4086], x: &[f64; 21], row: usize) -> [f64; 21]
-    ensures { result ≡ gradient_of doubles.now x.now row }
+fn gradient(doubles: &[f64; 4086], x: &[f64; 21], reduced: Reduced) -> [f64; 21]
+    ensures { result ≡ gradient_of doubles.now x.now (row_of reduced) }
 {
     let mut h = [0.0; 21];
     for i in 0..21 {
-        gradient_row(doubles, x, row, i, &mut h);
+        gradient_row(doubles, x, reduced, i, &mut h);
     }
     h
 }
 
 // The gradients of the reducing volume and of the reducing temperature.
+#[tactic(auto, unfolding(crate::specs::Reducing::gradients_of))]
 pub fn gradients(doubles: &[f64; 4086], x: &[f64; 21]) -> [[f64; 21]; 2]
     ensures { result ≡ gradients_of doubles.now x.now }
 {
-    let volume = gradient(doubles, x, 0);
-    let temperature = gradient(doubles, x, 1);
+    let volume = gradient(doubles, x, Reduced::Volume);
+    let temperature = gradient(doubles, x, Reduced::Temperature);
     [volume, temperature]
 }

@@ -2,14 +2,22 @@
 #![tactic(auto)]
 
 pub mod gradients;
+pub mod lent;
 pub mod reducing;
+
+// Which reducing value.
+#[derive(Clone, Copy, Debug, PartialEq, Eq)]
+pub enum Reduced {
+    Volume,
+    Temperature,
+}
 
 // A mixture of fixed composition, between the layers. Its reducing gradients, two rows of 21 numbers, are passed beside it.
 #[derive(Clone, Copy)]
 pub struct GergModel {
     // mole fraction of each of the 21 components
     pub fractions: [f64; 21],
-    // the listed components in list order, each less 1; the first `components` places count
+    // the listed components in list order, each less 1; the first `components` places count, in fixed memory
     pub component_indices: [u8; 21],
     pub components: usize,
     // K

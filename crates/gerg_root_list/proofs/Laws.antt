@@ -1,16 +1,16 @@
--- The ways of the code's steps, by arrays
-pub mod Keeping
+-- The answer
 pub mod Answering
-pub mod Settled
--- by what numbers roots are refused, how many are kept, and the value of an answer
+-- the loop over a scan's roots, by what numbers roots are refused, how many are kept, and the value of an answer
+pub mod Keeping
+pub mod KeptRefusals
 pub mod KeptNumbers
 pub mod KeptFew
 pub mod Told
 pub mod Envelope
+pub mod FirstFive
 -- lists of densities that rise
 pub mod RootList
 pub mod KeptRises
--- what an accepted answer has written
+-- what an accepted answer has written, and in which two pieces
+pub mod RootPasted
 pub mod Written
--- The number of a refusal is not below 6, which a chromatograph's list needs.
-pub mod LateKeptNumbers

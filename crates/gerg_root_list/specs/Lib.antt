@@ -1,4 +1,2 @@
--- The root list over what any root gives, document 01's number and value of an answer, what the code's arrays hold.
+-- The root list over what any root gives.
 pub mod RootList
-pub mod RootsNumbers
-pub mod RootsArrays

@@ -1,15 +1,17 @@
 -- The root list: what is tested first, the roots of a scan that are kept, and the answer, whatever a root gives.
-use Rattle.std.specs.Prelude.{Bool, false, ◌&&◌, ◌||◌, List, [], ◌∷◌, ◌++◌, ℕ, ◌+◌, ◌-◌, ◌*◌, eqb, ltb, leb, Float, length, get_or, set, take}
+use Rattle.std.specs.Prelude.{Bool, false, ◌&&◌, ◌||◌, List, [], ◌∷◌, ◌++◌, ℕ, ◌+◌, ◌-◌, ◌*◌, eqb, ltb, leb, Float, length, get_or, set, Result, Ok, Err}
 use Rattle.std.specs.Float.{nan}
 use Rattle.std.specs.Float.Ieee.{lt, le}
 use Rattle.numerics.specs.Double.{◌⊗◌, bits, pick}
 use Rattle.numerics.specs.Iterate.{iter}
+use Rattle.gerg_refusals.specs.declared.Refusal.{Refusal}
+use Rattle.gerg_refusals.specs.declared.Refusal.TheVariants as refusal
 use Rattle.gerg_reducing.specs.declared.GergModel.{GergModel}
+use Rattle.gerg_scan_steps.specs.Answers.{and_then}
 use Rattle.gerg_scan_steps.specs.Halving.{larger_of}
-use Rattle.gerg_scan_steps.specs.Scan.{Scanned}
-use Rattle.gerg_root_list.specs.declared.Settled.{Settled}
-use Rattle.gerg_root_list.specs.declared.RootsAnswer.{RootsAnswer}
-use Rattle.gerg_root_list.specs.declared.RootsAnswer.TheVariants.{Roots, Refused}
+use Rattle.gerg_scan_steps.specs.declared.Point.{Point}
+use Rattle.gerg_scan_steps.specs.declared.Scan.{Scan}
+use Rattle.gerg_root_list.specs.declared.Root.{Root}
 
 -- "listed component not 1 to 5": row 20
 unfoldable pub beyond_five : GergModel → Bool
@@ -21,73 +23,69 @@ within_envelope temperature target =
     le (bits 0x406c_c000_0000_0000) temperature && le temperature (bits 0x4075_e000_0000_0000)
     && (le (bits 0x40f8_6a00_0000_0000) target && le target (bits 0x4163_12d0_0000_0000))
 
--- What a root gives: density, pressure, Z and Gibbs energy, and its coefficients; or the number of a refusal.
-pub data Outcome : Type 0 where
-  found : List Float → List Float → Outcome
-  stopped : ℕ → Outcome
+-- what a root gives: itself, or a refusal
+abbrev pub Outcome : Type 0
+Outcome = Result Root Refusal
+
+-- the roots that are kept, or a refusal
+abbrev pub Kept : Type 0
+Kept = Result (List Root) Refusal
 
 -- the largest residual of a root: max(5e-12 × target, 2e-7)
 unfoldable pub limit_of : Float → Float
 limit_of target = larger_of (bits 0x3d95_fd7f_e179_6495 ⊗ target) (bits 0x3e8a_d7f2_9abc_af48)
 
--- The roots that are kept so far: their four numbers and, at the same places, their coefficients; and the number of a refusal, or 0.
-pub record Kept : Type 0 where
-  pub heads : List (List Float)
-  pub coefficients : List (List Float)
-  pub refused : ℕ
-
-abbrev pub stopped_by : ℕ → Kept → Kept
-stopped_by n k = record { heads = k.heads; coefficients = k.coefficients; refused = n }
-
-unfoldable pub joined_by : Outcome → Kept → Kept
-joined_by (found head coefficients) k = record { heads = k.heads ++ (head ∷ []); coefficients = k.coefficients ++ (coefficients ∷ []); refused = k.refused }
-joined_by (stopped n) k = stopped_by n k
+unfoldable pub joined_by : Outcome → List Root → Kept
+joined_by (Ok root) k = Ok (k ++ (root ∷ []))
+joined_by (Err r) k = Err r
 
 -- a root between the points of negative stiffness is dropped; row 22; then what it gives. `root` gives it at each density
-unfoldable pub keep_step : (Float → Outcome) → Float → Float → Float → Float → Float → Kept → Kept
-keep_step root target first last density residual k =
-    pick (eqb k.refused 0)
-    (pick (lt first density && lt density last) k
-    (pick (lt (limit_of target) residual) (stopped_by 22 k) (joined_by (root density) k)))
-    k
+unfoldable pub keep_step : (Float → Outcome) → Float → Float → Float → Point → List Root → Kept
+keep_step root target first last p k =
+    pick (lt first p.density && lt p.density last) (Ok k)
+    (pick (lt (limit_of target) p.residual) (Err refusal.RootNotConverged) (joined_by (root p.density) k))
+
+-- what stands past the end of a list of points, and of roots
+abbrev pub no_point : Point
+no_point = record { density = nan; residual = nan }
+
+abbrev pub no_root : Root
+no_root = record { head = []; coefficients = [] }
 
 -- "Dropping interior roots before the whole grid is seen" would be wrong: the whole scan is given
-unfoldable pub kept_of : (Float → Outcome) → Float → Scanned → Kept
+unfoldable pub kept_of : (Float → Outcome) → Float → Scan → Kept
 kept_of root target s =
-    iter (λ i. keep_step root target s.first_negative s.last_negative (get_or s.densities i nan) (get_or s.residuals i nan)) (length s.densities)
-    (record { heads = []; coefficients = []; refused = 0 })
-
--- doubles needed
-abbrev pub needed : GergModel → Kept → ℕ
-needed m k = length k.heads * (4 + m.components)
-
--- "no exterior root": 23; "lent answer too short": 24, last. `lent` is the length of the lent answer
-unfoldable pub answer_of : GergModel → ℕ → Kept → RootsAnswer
-answer_of m lent k =
-    pick (eqb k.refused 0)
-    (pick (eqb (length k.heads) 0) (Refused 23 0)
-    (pick (ltb lent (needed m k)) (Refused 24 (needed m k)) (Roots (length k.heads))))
-    (Refused k.refused 0)
-
--- number j of a root, and the root's m numbers from a place on
-unfoldable pub number_at : List Float → List Float → ℕ → Float
-number_at head coefficients j = pick (ltb j 4) (get_or head j nan) (get_or coefficients (j - 4) nan)
-
-unfoldable pub root_written : List Float → List Float → ℕ → ℕ → List Float → List Float
-root_written head coefficients m at l = iter (λ j out. set out (at + j) (number_at head coefficients j)) m l
-
-unfoldable pub roots_written : List (List Float) → List (List Float) → ℕ → ℕ → List Float → List Float
-roots_written heads coefficients m n l = iter (λ k. root_written (get_or heads k []) (get_or coefficients k []) m (k * m)) n l
-
--- "Every row leaves all lent memory as it was"
-unfoldable pub memory_by : GergModel → Kept → RootsAnswer → List Float → List Float
-memory_by m k (Roots n) out = roots_written k.heads k.coefficients (4 + m.components) n out
-memory_by m k (Refused number value) out = out
+    iter (λ i. and_then (keep_step root target s.first_negative s.last_negative (get_or s.roots.items i no_point))) (length s.roots.items) (Ok [])
 
 -- a refusal of the scan comes before any root is looked at
-unfoldable pub found_of : (Float → Outcome) → Float → Scanned → Kept
-found_of root target s = pick (eqb s.refused 0) (kept_of root target s) (record { heads = []; coefficients = []; refused = s.refused })
+unfoldable pub found_of : (Float → Outcome) → Float → Result Scan Refusal → Kept
+found_of root target s = and_then (kept_of root target) s
 
--- what the code's struct and the fronts of its two arrays stand for
-unfoldable pub settled_of : Settled → List (List Float) → List (List Float) → Kept
-settled_of s heads coefficients = record { heads = take s.count heads; coefficients = take s.count coefficients; refused = s.refused }
+-- doubles needed
+abbrev pub needed : GergModel → List Root → ℕ
+needed m k = length k * (4 + m.components)
+
+-- "no exterior root": 23; "lent answer too short": 24, last. `lent` is the length of the lent answer
+unfoldable pub answer_of : GergModel → ℕ → Kept → Result ℕ Refusal
+answer_of m lent (Ok k) = pick (eqb (length k) 0) (Err refusal.NoRoot) (pick (ltb lent (needed m k)) (Err (refusal.TooShort (needed m k))) (Ok (length k)))
+answer_of m lent (Err r) = Err r
+
+-- number j of a root, and the root's m numbers from a place on
+unfoldable pub number_at : Root → ℕ → Float
+number_at root j = pick (ltb j 4) (get_or root.head j nan) (get_or root.coefficients (j - 4) nan)
+
+unfoldable pub root_written : Root → ℕ → ℕ → List Float → List Float
+root_written root m at l = iter (λ j out. set out (at + j) (number_at root j)) m l
+
+unfoldable pub roots_written : List Root → ℕ → ℕ → List Float → List Float
+roots_written roots m n l = iter (λ k. root_written (get_or roots k no_root) m (k * m)) n l
+
+-- the roots, none where they are refused
+abbrev pub roots_in : Kept → List Root
+roots_in (Ok k) = k
+roots_in (Err r) = []
+
+-- "Every row leaves all lent memory as it was"
+unfoldable pub memory_by : GergModel → Kept → Result ℕ Refusal → List Float → List Float
+memory_by m k (Ok n) out = roots_written (roots_in k) (4 + m.components) n out
+memory_by m k (Err r) out = out

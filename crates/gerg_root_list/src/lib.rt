@@ -5,16 +5,16 @@
 pub mod answer;
 pub mod envelope;
 
-// The roots that are kept so far, which lie in two arrays beside it, and the number of the refusal that ended it, or 0.
-#[derive(Clone, Copy)]
-pub struct Settled {
-    pub count: usize,
-    pub refused: u8,
+use arrayvec::ArrayVec;
+
+// A root that is kept.
+#[derive(Clone, Copy, Default)]
+pub struct Root {
+    // density, pressure, Z and Gibbs energy, in the order in which they are written
+    pub head: [f64; 4],
+    // ln φ of the listed components in the first places
+    pub coefficients: [f64; 21],
 }
 
-// The number of exterior roots, or document 01's number and value.
-#[derive(Clone, Copy)]
-pub enum RootsAnswer {
-    Roots(usize),
-    Refused { number: u8, value: usize },
-}
+// At most as many as a grid has points.
+pub type Roots = ArrayVec<Root, 386>;

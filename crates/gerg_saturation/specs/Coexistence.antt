@@ -1,13 +1,15 @@
 -- What one or two exterior roots tell of saturation, and when a saturation is accepted.
-use Rattle.std.specs.Prelude.{List, ℕ, Float, get_or}
+use Rattle.std.specs.Prelude.{List, ℕ, Float, Ok, Err, get_or}
 use Rattle.std.specs.Float.{nan}
 use Rattle.std.specs.Float.Ieee.{lt, le, eq, neg}
 use Rattle.numerics.specs.Double.{◌⊖◌, ◌⊘◌, bits, +0, one, pick}
+use Rattle.gerg_root_list.specs.declared.Root.{Root}
+use Rattle.gerg_saturation.specs.Answer.{Sample, Tried}
+use Rattle.gerg_saturation.specs.declared.Exterior.{Exterior}
+use Rattle.gerg_saturation.specs.declared.Exterior.TheVariants.{Single, Coexisting}
 use Rattle.gerg_saturation.specs.declared.PureSaturation.{PureSaturation}
-use Rattle.gerg_saturation.specs.declared.Sample.{Sample}
-use Rattle.gerg_saturation.specs.declared.Sample.TheVariants as sampled
 use Rattle.gerg_saturation.specs.declared.Verdict.{Verdict}
-use Rattle.gerg_saturation.specs.declared.Verdict.TheVariants.{Accepted, Apart, Refused}
+use Rattle.gerg_saturation.specs.declared.Verdict.TheVariants.{Accepted, Apart}
 
 -- |x|: of either zero +0
 unfoldable pub magnitude_of : Float → Float
@@ -32,17 +34,21 @@ saturation_of temperature pressure liquid liquid-ln-phi vapor vapor-ln-phi = rec
 }
 
 -- the difference is that of the liquid's ln φ and the vapor's at `place`, which is the positive fraction's
-unfoldable pub coexisting_of : ℕ → Float → Float → List Float → List Float → List Float → List Float → Sample
-coexisting_of place temperature pressure liquid liquid-coefficients vapor vapor-coefficients =
-    sampled.Coexisting (get_or liquid-coefficients place nan ⊖ get_or vapor-coefficients place nan)
-    (saturation_of temperature pressure liquid (get_or liquid-coefficients place nan) vapor (get_or vapor-coefficients place nan))
+unfoldable pub coexisting_of : ℕ → Float → Float → Root → Root → Exterior
+coexisting_of place temperature pressure liquid vapor =
+    Coexisting (get_or liquid.coefficients place nan ⊖ get_or vapor.coefficients place nan)
+    (saturation_of temperature pressure liquid.head (get_or liquid.coefficients place nan) vapor.head (get_or vapor.coefficients place nan))
 
 -- 1e-12
 abbrev pub most_residual : Float
 most_residual = bits 0x3d71_9799_812d_ea11
 
 -- accepted: a saturation whose residual is at most 1e-12
-unfoldable pub verdict_of : Sample → Verdict
-verdict_of (sampled.Single sign) = Apart sign
-verdict_of (sampled.Coexisting difference s) = pick (le s.fugacity_residual most_residual) (Accepted s) (Apart difference)
-verdict_of (sampled.Refused n) = Refused n
+unfoldable pub verdict_of : Exterior → Verdict
+verdict_of (Single sign) = Apart sign
+verdict_of (Coexisting difference s) = pick (le s.fugacity_residual most_residual) (Accepted s) (Apart difference)
+
+-- what a temperature says by its sample
+unfoldable pub tried_of : Sample → Tried
+tried_of (Ok roots) = Ok (verdict_of roots)
+tried_of (Err r) = Err r

@@ -1,14 +1,13 @@
 -- The halvings of an interval of temperatures, their trials, and the answer. `v` gives the verdict at each temperature.
-use Rattle.std.specs.Prelude.{Bool, false, not, ◌&&◌, ◌||◌, List, [], ◌∷◌, ℕ, zero, suc, Float, length}
+use Rattle.std.specs.Prelude.{Bool, false, not, ◌&&◌, ◌||◌, List, [], ◌∷◌, ℕ, zero, suc, Float, Some, None, Ok, Err, length}
 use Rattle.std.specs.Float.Ieee.{lt, eq}
 use Rattle.numerics.specs.Double.{+0, pick}
 use Rattle.numerics.specs.Middle.{middle}
+use Rattle.gerg_refusals.specs.declared.Refusal.TheVariants as refusal
+use Rattle.gerg_saturation.specs.Answer.{Tried, Answer}
 use Rattle.gerg_saturation.specs.declared.PureSaturation.{PureSaturation}
 use Rattle.gerg_saturation.specs.declared.Interval.{Interval}
-use Rattle.gerg_saturation.specs.declared.Verdict.{Verdict}
-use Rattle.gerg_saturation.specs.declared.Verdict.TheVariants as verdict
-use Rattle.gerg_saturation.specs.declared.SaturationAnswer.{SaturationAnswer}
-use Rattle.gerg_saturation.specs.declared.SaturationAnswer.TheVariants.{Found, NotEnclosed, Refused}
+use Rattle.gerg_saturation.specs.declared.Verdict.TheVariants.{Accepted, Apart}
 
 -- "the middle"
 abbrev pub middle_of : Interval → Float
@@ -27,13 +26,13 @@ unfoldable pub narrowed_of : Interval → Float → Float → Interval
 narrowed_of b x difference = pick (lt difference +0) (record { lo = x; hi = b.hi }) (record { lo = b.lo; hi = x })
 
 -- what follows a middle that is neither accepted nor refused and no end; else what stands where the halvings end
-unfoldable pub onward : {A : Type 0} → Interval → Float → Verdict → (Interval → A) → A → A
-onward b x (verdict.Apart difference) go end = pick (on_end b x) end (go (narrowed_of b x difference))
-onward b x (verdict.Accepted s) go end = end
-onward b x (verdict.Refused n) go end = end
+unfoldable pub onward : {A : Type 0} → Interval → Float → Tried → (Interval → A) → A → A
+onward b x (Ok (Apart difference)) go end = pick (on_end b x) end (go (narrowed_of b x difference))
+onward b x (Ok (Accepted s)) go end = end
+onward b x (Err r) go end = end
 
 -- "A saturation trial is a point tried strictly between the two ends that stand before it; the trials are the list of these, .. one that ends it with a refusal included": of the interval b, n halvings at most
-unfoldable pub trials_from : (Float → Verdict) → ℕ → Interval → List Float
+unfoldable pub trials_from : (Float → Tried) → ℕ → Interval → List Float
 trials_from v zero b = []
 trials_from v (suc n) b =
     let rest = onward b (middle_of b) (v (middle_of b)) (λ c. trials_from v n c) [] in
@@ -54,41 +53,41 @@ numbered k s = record {
 }
 
 -- what the middle of iteration k answers, or the rest
-unfoldable pub answered_of : ℕ → Verdict → SaturationAnswer → SaturationAnswer
-answered_of k (verdict.Accepted s) rest = Found (numbered k s)
-answered_of k (verdict.Apart difference) rest = rest
-answered_of k (verdict.Refused n) rest = Refused n 0
+unfoldable pub answered_of : ℕ → Tried → Answer → Answer
+answered_of k (Ok (Accepted s)) rest = Ok (Some (numbered k s))
+answered_of k (Ok (Apart difference)) rest = rest
+answered_of k (Err r) rest = Err r
 
 -- "limit made, or the middle falls on an end, none accepted": 26. k halvings are made and n are left; `trials` is what row 26 returns
-unfoldable pub halvings_from : (Float → Verdict) → ℕ → ℕ → ℕ → Interval → SaturationAnswer
-halvings_from v trials zero k b = Refused 26 trials
-halvings_from v trials (suc n) k b = answered_of (suc k) (v (middle_of b)) (onward b (middle_of b) (v (middle_of b)) (λ c. halvings_from v trials n (suc k) c) (Refused 26 trials))
+unfoldable pub halvings_from : (Float → Tried) → ℕ → ℕ → ℕ → Interval → Answer
+halvings_from v trials zero k b = Err (refusal.SaturationNotConverged trials)
+halvings_from v trials (suc n) k b = answered_of (suc k) (v (middle_of b)) (onward b (middle_of b) (v (middle_of b)) (λ c. halvings_from v trials n (suc k) c) (Err (refusal.SaturationNotConverged trials)))
 
 -- "the value of row 26 is the list's length"
-unfoldable pub halvings_of : (Float → Verdict) → ℕ → Interval → SaturationAnswer
+unfoldable pub halvings_of : (Float → Tried) → ℕ → Interval → Answer
 halvings_of v limit b = halvings_from v (length (trials_from v limit b)) limit 0 b
 
 -- neither end is refused or accepted, and the difference changes its sign from the low end to the high one
-unfoldable pub encloses : Verdict → Verdict → Bool
-encloses (verdict.Apart left) (verdict.Apart right) = not (lt +0 left || lt right +0)
-encloses (verdict.Apart left) (verdict.Accepted s) = false
-encloses (verdict.Apart left) (verdict.Refused n) = false
-encloses (verdict.Accepted s) right = false
-encloses (verdict.Refused n) right = false
+unfoldable pub encloses : Tried → Tried → Bool
+encloses (Ok (Apart left)) (Ok (Apart right)) = not (lt +0 left || lt right +0)
+encloses (Ok (Apart left)) (Ok (Accepted s)) = false
+encloses (Ok (Apart left)) (Err r) = false
+encloses (Ok (Accepted s)) right = false
+encloses (Err r) right = false
 
 -- the ends: a refusal, the low end's first; an accepted end, the low one first; "not enclosed"; else the halvings
-unfoldable pub ends_of : Verdict → Verdict → SaturationAnswer → SaturationAnswer
-ends_of (verdict.Refused n) right inner = Refused n 0
-ends_of (verdict.Accepted s) (verdict.Refused n) inner = Refused n 0
-ends_of (verdict.Accepted s) (verdict.Accepted u) inner = Found s
-ends_of (verdict.Accepted s) (verdict.Apart right) inner = Found s
-ends_of (verdict.Apart left) (verdict.Refused n) inner = Refused n 0
-ends_of (verdict.Apart left) (verdict.Accepted u) inner = Found u
-ends_of (verdict.Apart left) (verdict.Apart right) inner = pick (lt +0 left || lt right +0) NotEnclosed inner
+unfoldable pub ends_of : Tried → Tried → Answer → Answer
+ends_of (Err r) right inner = Err r
+ends_of (Ok (Accepted s)) (Err r) inner = Err r
+ends_of (Ok (Accepted s)) (Ok (Accepted u)) inner = Ok (Some s)
+ends_of (Ok (Accepted s)) (Ok (Apart right)) inner = Ok (Some s)
+ends_of (Ok (Apart left)) (Err r) inner = Err r
+ends_of (Ok (Apart left)) (Ok (Accepted u)) inner = Ok (Some u)
+ends_of (Ok (Apart left)) (Ok (Apart right)) inner = pick (lt +0 left || lt right +0) (Ok None) inner
 
-unfoldable pub search_of : (Float → Verdict) → ℕ → Interval → SaturationAnswer
+unfoldable pub search_of : (Float → Tried) → ℕ → Interval → Answer
 search_of v limit b = ends_of (v b.lo) (v b.hi) (halvings_of v limit b)
 
 -- the trials of a search: none where the halvings are not begun
-unfoldable pub trials_of : (Float → Verdict) → ℕ → Interval → List Float
+unfoldable pub trials_of : (Float → Tried) → ℕ → Interval → List Float
 trials_of v limit b = pick (encloses (v b.lo) (v b.hi)) (trials_from v limit b) []

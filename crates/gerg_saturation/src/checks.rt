@@ -1,14 +1,16 @@
 // The rows that need no root: 25, which wants one positive fraction and ends that rise, and those that follow it.
 
-ghost use Rattle.std.specs.Prelude.{◌≡◌, ◌+◌, ◌^◌, ◌<◌};
+ghost use Rattle.std.specs.Prelude.{◌≡◌, ◌+◌, ◌^◌, ◌<◌, Err};
 ghost use Rattle.std.specs.Float.Ieee.{lt};
 ghost use Rattle.numerics.specs.Double.{+0, pick};
 ghost use Rattle.gerg_reducing.specs.Listed.{Listed};
+ghost use Rattle.gerg_refusals.specs.Answer.{passed};
+ghost use Rattle.gerg_refusals.specs.declared.Refusal.TheVariants as refusal;
 ghost use Rattle.gerg_saturation.specs.Checks.{positive_fractions, positive_place, refused_by};
 
 use crate::Positive;
 use gerg_reducing::GergModel;
-use gerg_tables::numbers;
+use gerg_refusals::Refusal;
 use gerg_tables::numbers::is_finite;
 
 // The fraction at place k joins the positive ones if it is one.
@@ -26,42 +28,39 @@ fn joined(p: Positive, k: usize, fraction: f64) -> Positive
 }
 
 // The positive fractions of the list.
-pub fn positive(model: GergModel) -> Positive
-    requires { Listed model }
-    ensures { (result.count ≡ positive_fractions model) × (result.place ≡ positive_place model) × (result.place < 21) }
+#[tactic(auto, using(numerics::specs::Double::pick, numerics::specs::Iterate::iter_begins, numerics::specs::Iterate::iter_turn, numerics::specs::Iterate::iter_done), unfolding(crate::specs::Checks::positive_fractions, crate::specs::Checks::positive_place, crate::specs::Checks::fraction_at))]
+pub fn positive(model: &GergModel) -> Positive
+    requires { Listed model.now }
+    ensures { (result.count ≡ positive_fractions model.now) × (result.place ≡ positive_place model.now) × (result.place < 21) }
 {
-    let fractions = model.fractions;
-    let indices = model.component_indices;
-    let n = model.components;
     let mut p = Positive { count: 0, place: 0 };
-    let mut k = 0usize;
-    while k < n {
-        let index = numbers::wide(indices[k]);
-        p = joined(p, k, fractions[index]);
-        k += 1;
+    for k in 0..model.components {
+        let index = usize::from(model.component_indices[k]);
+        p = joined(p, k, model.fractions[index]);
     }
     p
 }
 
 // Row 25, of the number of positive fractions and the ends.
+#[tactic(auto, unfolding(crate::specs::Checks::refused_by))]
 pub fn refused(n: usize, lo: f64, hi: f64) -> bool
     ensures { result ≡ refused_by n lo hi }
 {
     !(n == 1) | !is_finite(lo) | !is_finite(hi) | !(lo < hi)
 }
 
-// The first row that refuses before a root is sought, or 0: 25, 20, then 21 at the low end.
-pub fn first_row(unfit: bool, beyond: bool, within: bool) -> u8
-    ensures { result ≡ pick unfit 25 (pick beyond 20 (pick within 0 21)) }
+// The rows that refuse before a root is sought: 25, 20, then 21 at the low end.
+pub fn first_row(unfit: bool, beyond: bool, within: bool) -> Result<(), Refusal>
+    ensures { result ≡ pick unfit (Err refusal.NotPure) (pick beyond (Err refusal.BeyondFive) (pick within passed (Err refusal.OutsideEnvelope))) }
 {
     if unfit {
-        return 25;
+        return Err(Refusal::NotPure);
     }
     if beyond {
-        return 20;
+        return Err(Refusal::BeyondFive);
     }
     if within {
-        return 0;
+        return Ok(());
     }
-    21
+    Err(Refusal::OutsideEnvelope)
 }

@@ -1,9 +1,11 @@
 // What one or two exterior roots tell of saturation.
+#![tactic(auto, unfolding(crate::specs::Coexistence::magnitude_of, crate::specs::Coexistence::sign_of, crate::specs::Coexistence::saturation_of, crate::specs::Coexistence::coexisting_of, crate::specs::Coexistence::verdict_of))]
 
 ghost use Rattle.std.specs.Prelude.{◌≡◌, ◌<◌};
 ghost use Rattle.gerg_saturation.specs.Coexistence.{magnitude_of, sign_of, saturation_of, coexisting_of, verdict_of};
 
-use crate::{PureSaturation, Sample, Verdict};
+use crate::{Exterior, PureSaturation, Verdict};
+use gerg_root_list::Root;
 
 // The size of a number: +0 for either zero.
 pub fn magnitude(x: f64) -> f64
@@ -29,12 +31,12 @@ pub fn sign(reducing_density: f64, head: &[f64; 4]) -> f64
 }
 
 // The numbers of two roots, and their coefficients of the one component.
-pub fn saturation<'a>(
+pub fn saturation(
     temperature: f64,
     pressure: f64,
-    liquid: &'a [f64; 4],
+    liquid: &[f64; 4],
     liquid_ln_phi: f64,
-    vapor: &'a [f64; 4],
+    vapor: &[f64; 4],
     vapor_ln_phi: f64,
 ) -> PureSaturation
     ensures { result ≡ saturation_of temperature pressure liquid.now liquid_ln_phi vapor.now vapor_ln_phi }
@@ -53,36 +55,35 @@ pub fn saturation<'a>(
     }
 }
 
-pub fn coexisting<'a>(
+pub fn coexisting(
     place: usize,
     temperature: f64,
     pressure: f64,
-    liquid: &'a [f64; 4],
-    liquid_coefficients: &'a [f64; 21],
-    vapor: &'a [f64; 4],
-    vapor_coefficients: &'a [f64; 21],
-) -> Sample
+    liquid: &Root,
+    vapor: &Root,
+) -> Exterior
     requires { place < 21 }
-    ensures { result ≡ coexisting_of place temperature pressure liquid.now liquid_coefficients.now vapor.now vapor_coefficients.now }
+    ensures { result ≡ coexisting_of place temperature pressure liquid.now vapor.now }
 {
-    let l = liquid_coefficients[place];
-    let v = vapor_coefficients[place];
-    let s = saturation(temperature, pressure, liquid, l, vapor, v);
-    Sample::Coexisting(l - v, s)
+    let l = liquid.coefficients[place];
+    let v = vapor.coefficients[place];
+    let s = saturation(temperature, pressure, &liquid.head, l, &vapor.head, v);
+    Exterior::Coexisting(l - v, s)
 }
 
-// A saturation is accepted by its residual.
-pub fn verdict(sample: Sample) -> Verdict
-    ensures { result ≡ verdict_of sample }
-{
-    match sample {
-        Sample::Refused(n) => Verdict::Refused(n),
-        Sample::Single(sign) => Verdict::Apart(sign),
-        Sample::Coexisting(difference, s) => {
-            if s.fugacity_residual <= 1e-12 {
-                return Verdict::Accepted(s);
+impl Exterior {
+    // A saturation is accepted by its residual.
+    pub fn verdict(self) -> Verdict
+        ensures { result ≡ verdict_of self }
+    {
+        match self {
+            Exterior::Single(sign) => Verdict::Apart(sign),
+            Exterior::Coexisting(difference, s) => {
+                if s.fugacity_residual <= 1e-12 {
+                    return Verdict::Accepted(s);
+                }
+                Verdict::Apart(difference)
             }
-            Verdict::Apart(difference)
         }
     }
 }

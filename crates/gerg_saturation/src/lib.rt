@@ -3,8 +3,9 @@
 
 pub mod checks;
 pub mod coexistence;
-pub mod ends;
 pub mod halving;
+
+use gerg_refusals::Refusal;
 
 // The numbers of `PureSaturation` in saturation.rs.
 #[derive(Clone, Copy)]
@@ -28,21 +29,25 @@ pub struct Positive {
 }
 
 // The exterior roots at a temperature: the sign of the branch of a single one; of more, the difference of the fugacity coefficients of
-// liquid and vapor, and the saturation that they would be; or the number of the refusal.
+// liquid and vapor, and the saturation that they would be.
 #[derive(Clone, Copy)]
-pub enum Sample {
+pub enum Exterior {
     Single(f64),
     Coexisting(f64, PureSaturation),
-    Refused(u8),
 }
 
-// What a sample says: accepted, apart by this difference, or the number of the refusal.
+// What exterior roots say: accepted, or apart by this difference.
 #[derive(Clone, Copy)]
 pub enum Verdict {
     Accepted(PureSaturation),
     Apart(f64),
-    Refused(u8),
 }
+
+// The exterior roots at a temperature that is tried, or why there are none.
+pub type Sample = Result<Exterior, Refusal>;
+
+// What a temperature that is tried says.
+pub type Tried = Result<Verdict, Refusal>;
 
 // The ends of an interval of temperatures, in K.
 #[derive(Clone, Copy)]
@@ -58,10 +63,5 @@ pub struct Options {
     pub limit: usize,
 }
 
-// A saturation, none between the ends, or document 01's number and value.
-#[derive(Clone, Copy)]
-pub enum SaturationAnswer {
-    Found(PureSaturation),
-    NotEnclosed,
-    Refused { number: u8, value: usize },
-}
+// A saturation, or none where the ends enclose none.
+pub type Answer = Result<Option<PureSaturation>, Refusal>;

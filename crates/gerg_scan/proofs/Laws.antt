@@ -1,4 +1,4 @@
--- By what numbers a scan refuses.
+-- By what numbers a scan refuses: not below 6, which a chromatograph's list needs.
+pub mod SampleRows
 pub mod SampleNumbers
--- The number of a refusal is not below 6, which a chromatograph's list needs.
 pub mod LateSampleNumbers

@@ -1,23 +1,22 @@
 // The scan of an isotherm over the grid: each crossing of the target is halved, and its best point joins the roots.
 #![tactic(auto)]
 
+ghost use Rattle.gerg_reducing.specs.Listed.{Listed};
+
 pub mod sampling;
 
 use gerg::Range;
-use gerg_reducing::GergModel;
+use gerg_isotherm::lent::Isotherm;
 
-// What is sought: the densities at which a mixture at a temperature has a pressure.
+// What is sought: the densities at which the mixture of an isotherm has a pressure. The mixture's gradients go with it, for the
+// fugacity coefficients there.
 #[derive(Clone, Copy)]
-pub struct Sought {
-    pub model: GergModel,
+pub struct Sought<'a> {
+    pub isotherm: Isotherm<'a>,
+    // of the reducing volume and of the reducing temperature
+    pub gradients: &'a [[f64; 21]; 2],
     pub range: Range,
-    pub temperature: f64,
+    // Pa
     pub pressure: f64,
-}
-
-// A density, and the residual there: the pressure less the one sought.
-#[derive(Clone, Copy)]
-pub struct Point {
-    pub density: f64,
-    pub residual: f64,
+    pub ghost listed: { Listed isotherm.model.now },
 }

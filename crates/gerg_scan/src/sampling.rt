@@ -1,190 +1,83 @@
 // The scan over an isotherm: samples, the halving of each crossing, and the loop over the grid.
+#![tactic(auto, unfolding(crate::specs::Sampling::sample_of, crate::specs::Sampling::sample_by, crate::specs::Sampling::sample_from, gerg_scan_steps::specs::Scan::crossed_of, gerg_scan_steps::specs::Scan::scan_step, gerg_scan_steps::specs::Scan::seen_of, gerg_scan_steps::specs::Scan::noted_of))]
 
-ghost use Rattle.std.specs.Prelude.{◌≡◌, ◌+◌, ◌<◌, ◌≤◌, length, take};
-ghost use Rattle.gerg_tables.specs.Tables.{tables, Shaped};
-ghost use Rattle.gerg_scan.specs.Sampling.{sample_from, sample_by};
-ghost use Rattle.gerg_scan_steps.specs.Halving.{halved_of, crossing_of};
+ghost use Rattle.std.specs.Prelude.{◌≡◌, ◌<◌, ◌≤◌, length};
+ghost use Rattle.arrayvec.specs.ArrayVec.{array_vec_len};
+ghost use Rattle.gerg_scan_steps.specs.Answers.{leaves};
+ghost use Rattle.gerg_scan_steps.specs.Halving.{tolerance_of, crossing_of};
 ghost use Rattle.gerg_scan_steps.specs.Scan.{crossed_of, scan_step, scan_of};
-ghost use Rattle.gerg_scan_steps.specs.ScanArrays.{Stepped, Ended};
-ghost use Rattle.gerg_scan.specs.Sought.{isotherm_for, sample_for};
+ghost use Rattle.gerg_scan.specs.Sought.{sample_for};
 
-use crate::{Point, Sought};
+use crate::Sought;
 use gerg::evaluate::GERG_GAS_CONSTANT;
 use gerg::helmholtz;
-use gerg::helmholtz::HelmholtzAnswer;
-use gerg_derivatives::derivatives::GergDerivatives;
-use gerg_scan_steps::{Halving, Sample, Scan, halve, scanning};
+use gerg_refusals::Refusal;
+use gerg_scan_steps::{Halving, Point, Sample, Scan, halve};
 
-fn sample_from(temperature: f64, target: f64, rho: f64, a: GergDerivatives) -> Sample
-    ensures { result ≡ sample_from temperature target rho a }
+fn sample(sought: Sought, rho: f64) -> Sample
+    ensures { result ≡ sample_for sought.entry rho }
 {
-    let rt = GERG_GAS_CONSTANT * temperature;
-    Sample::Value(
-        rho * rt * (1.0 + a.ar_d) - target,
+    let a = helmholtz::helmholtz_at(sought.isotherm, sought.range, rho)?;
+    let rt = GERG_GAS_CONSTANT * sought.isotherm.temperature;
+    Ok((
+        rho * rt * (1.0 + a.ar_d) - sought.pressure,
         rt * (1.0 + 2.0 * a.ar_d + a.ar_dd),
-    )
-}
-
-fn sample_by(temperature: f64, target: f64, rho: f64, h: HelmholtzAnswer) -> Sample
-    ensures { result ≡ sample_by temperature target rho h }
-{
-    match h {
-        HelmholtzAnswer::Derivatives(a) => sample_from(temperature, target, rho, a),
-        HelmholtzAnswer::Refused(n) => Sample::Refused(n),
-    }
-}
-
-fn sample<'a>(
-    doubles: &'a [f64; 4086],
-    integers: &'a [u8; 1631],
-    isotherm: &'a [f64; 939],
-    sought: Sought,
-    rho: f64,
-) -> Sample
-    requires { Shaped (tables doubles.now integers.now) × (isotherm.now ≡ isotherm_for (tables doubles.now integers.now) sought) }
-    ensures { result ≡ sample_for (tables doubles.now integers.now) sought rho }
-{
-    let model = sought.model;
-    let range = sought.range;
-    let t = sought.temperature;
-    let h = helmholtz::helmholtz_at(doubles, integers, isotherm, model, range, t, rho);
-    sample_by(t, sought.pressure, rho, h)
-}
-
-fn halved<'a>(
-    h: Halving,
-    doubles: &'a [f64; 4086],
-    integers: &'a [u8; 1631],
-    isotherm: &'a [f64; 939],
-    sought: Sought,
-    tolerance: f64,
-) -> Halving
-    requires { Shaped (tables doubles.now integers.now) × (isotherm.now ≡ isotherm_for (tables doubles.now integers.now) sought) }
-    ensures { result ≡ halved_of (sample_for (tables doubles.now integers.now) sought) tolerance h }
-{
-    if h.stopped {
-        return h;
-    }
-    let rho = halve::middle(h);
-    let s = sample(doubles, integers, isotherm, sought, rho);
-    halve::tried(tolerance, h, rho, s)
+    ))
 }
 
 // A crossing between two grid points, halved at most 100 times.
-fn crossing<'a>(
-    doubles: &'a [f64; 4086],
-    integers: &'a [u8; 1631],
-    isotherm: &'a [f64; 939],
-    sought: Sought,
-    tolerance: f64,
-    lo: f64,
-    hi: f64,
-) -> Halving
-    requires { Shaped (tables doubles.now integers.now) × (isotherm.now ≡ isotherm_for (tables doubles.now integers.now) sought) }
-    ensures { result ≡ crossing_of (sample_for (tables doubles.now integers.now) sought) tolerance lo hi }
+fn crossing(sought: Sought, lo: f64, hi: f64) -> Result<Halving, Refusal>
+    ensures { result ≡ crossing_of (sample_for sought.entry) (tolerance_of sought.entry.pressure) lo hi }
 {
+    let tolerance = halve::tolerance(sought.pressure);
     let mut h = halve::unhalved_between(lo, hi);
-    let mut k = 0usize;
-    while k < 100 {
-        h = halved(h, doubles, integers, isotherm, sought, tolerance);
-        k += 1;
+    for _ in 0..100usize {
+        if h.stopped {
+            return Ok(h);
+        }
+        let rho = halve::middle(h);
+        h = halve::tried(tolerance, h, rho, sample(sought, rho))?;
     }
-    h
+    Ok(h)
 }
 
 // A crossing from the previous grid point to the current one joins the roots.
-fn crossed<'a>(
-    s: Scan,
-    densities: &mut [f64; 386],
-    residuals: &mut [f64; 386],
-    doubles: &'a [f64; 4086],
-    integers: &'a [u8; 1631],
-    isotherm: &'a [f64; 939],
-    sought: Sought,
-    current: Point,
-) -> Scan
-    requires { (s.count < 386) × (length densities.old ≡ 386) × (length residuals.old ≡ 386) × Shaped (tables doubles.now integers.now)
-        × (isotherm.now ≡ isotherm_for (tables doubles.now integers.now) sought) }
-    ensures { Stepped (crossed_of (sample_for (tables doubles.now integers.now) sought) sought.pressure current.density current.residual) s
-        densities.old residuals.old result densities.new residuals.new }
+fn cross(scan: &mut Scan, sought: Sought, current: Point) -> Result<(), Refusal>
+    requires { array_vec_len scan.old.roots < 386 }
+    ensures { leaves result scan.new ≡ crossed_of (sample_for sought.entry) sought.entry.pressure current.density current.residual scan.old }
 {
-    if (s.left <= 0.0) & (current.residual >= 0.0) {
-        let tolerance = halve::tolerance(sought.pressure);
-        let h = crossing(
-            doubles,
-            integers,
-            isotherm,
-            sought,
-            tolerance,
-            s.previous,
-            current.density,
-        );
-        return scanning::rooted(s, h, densities, residuals);
+    if (scan.left <= 0.0) & (current.residual >= 0.0) {
+        let h = crossing(sought, scan.previous, current.density)?;
+        scan.root(h);
     }
-    s
+    Ok(())
 }
 
-// One grid point more; a refusal ends the scan.
-fn scan_step<'a>(
-    s: Scan,
-    densities: &mut [f64; 386],
-    residuals: &mut [f64; 386],
-    doubles: &'a [f64; 4086],
-    integers: &'a [u8; 1631],
-    isotherm: &'a [f64; 939],
-    sought: Sought,
-    current: f64,
-) -> Scan
-    requires { (s.count < 386) × (length densities.old ≡ 386) × (length residuals.old ≡ 386) × Shaped (tables doubles.now integers.now)
-        × (isotherm.now ≡ isotherm_for (tables doubles.now integers.now) sought) }
-    ensures { Stepped (scan_step (sample_for (tables doubles.now integers.now) sought) sought.pressure current) s
-        densities.old residuals.old result densities.new residuals.new }
+// One grid point more.
+fn step(scan: &mut Scan, sought: Sought, current: f64) -> Result<(), Refusal>
+    requires { array_vec_len scan.old.roots < 386 }
+    ensures { leaves result scan.new ≡ scan_step (sample_for sought.entry) sought.entry.pressure current scan.old }
 {
-    if s.refused != 0 {
-        return s;
-    }
-    let v = sample(doubles, integers, isotherm, sought, current);
-    match v {
-        Sample::Refused(n) => scanning::refused_by(s, n),
-        Sample::Value(right, stiffness) => {
-            let t = scanning::noted(s, current, stiffness);
-            let at = Point {
-                density: current,
-                residual: right,
-            };
-            let u = crossed(
-                t, densities, residuals, doubles, integers, isotherm, sought, at,
-            );
-            scanning::moved(u, current, right)
-        }
-    }
+    let (right, stiffness) = sample(sought, current)?;
+    scan.note(current, stiffness);
+    let at = Point {
+        density: current,
+        residual: right,
+    };
+    cross(scan, sought, at)?;
+    scan.go_to(current, right);
+    Ok(())
 }
 
-// The scan over the first `count` points of a grid.
-pub fn scan<'a>(
-    points: &'a [f64; 386],
-    count: usize,
-    densities: &mut [f64; 386],
-    residuals: &mut [f64; 386],
-    doubles: &'a [f64; 4086],
-    integers: &'a [u8; 1631],
-    isotherm: &'a [f64; 939],
-    sought: Sought,
-) -> Scan
-    requires { (0 < count) × (count ≤ 386) × (length points.now ≡ 386) × (length densities.old ≡ 386) × (length residuals.old ≡ 386) × Shaped (tables doubles.now integers.now)
-        × (isotherm.now ≡ isotherm_for (tables doubles.now integers.now) sought) }
-    ensures { Ended (scan_of (sample_for (tables doubles.now integers.now) sought) sought.pressure (take count points.now)) result
-        densities.new residuals.new }
+// The scan over a grid; a refusal ends it.
+pub fn scan(grid: &[f64], sought: Sought) -> Result<Scan, Refusal>
+    requires { (0 < length grid.now) × (length grid.now ≤ 386) }
+    ensures { result ≡ scan_of (sample_for sought.entry) sought.entry.pressure grid.now }
 {
-    let first = points[0];
-    let v = sample(doubles, integers, isotherm, sought, first);
-    let mut s = scanning::begun(first, v);
-    let mut i = 1usize;
-    while i < count {
-        s = scan_step(
-            s, densities, residuals, doubles, integers, isotherm, sought, points[i],
-        );
-        i += 1;
+    let first = grid[0];
+    let mut scan = Scan::begun(first, sample(sought, first))?;
+    for point in &grid[1..] {
+        step(&mut scan, sought, *point)?;
     }
-    s
+    Ok(scan)
 }

@@ -1,8 +1,8 @@
--- What a scan keeps, whatever the samples are: its numbers, how many roots it finds, and that they rise.
-pub mod ScanSteps
+-- The loops of a scan, and what it keeps, whatever the samples are: its refusals, how many roots it finds, and that they rise.
+pub mod Answers
+pub mod Loops
 pub mod ScanFew
+pub mod ScanRefusals
 pub mod ScanNumbers
 pub mod HalvingStays
 pub mod ScanRises
--- The number of a refusal is not below 6, which a chromatograph's list needs.
-pub mod LateScanNumbers

@@ -1,11 +1,12 @@
 -- A crossing of the target between two densities, halved. `v` gives the sample at each density.
-use Rattle.std.specs.Prelude.{true, false, ◌||◌, ℕ, Float}
+use Rattle.std.specs.Prelude.{false, ◌||◌, Float, Result, Ok, Err}
 use Rattle.std.specs.Float.Ieee.{lt, le, eq, neg}
 use Rattle.numerics.specs.Double.{◌⊗◌, ◌⊘◌, bits, +0, one, pick}
 use Rattle.numerics.specs.Middle.{middle}
 use Rattle.numerics.specs.Iterate.{iter}
-use Rattle.gerg_scan_steps.specs.declared.Sample.{Sample}
-use Rattle.gerg_scan_steps.specs.declared.Sample.TheVariants.{Value, Refused}
+use Rattle.gerg_refusals.specs.declared.Refusal.{Refusal}
+use Rattle.gerg_scan_steps.specs.Answers.{and_then}
+use Rattle.gerg_scan_steps.specs.Sample.{Sample}
 use Rattle.gerg_scan_steps.specs.declared.Halving.{Halving}
 
 abbrev pub infinity : Float
@@ -34,24 +35,20 @@ narrowed_of tolerance h rho f = record {
   best_residual = pick (lt (size_of f) h.best_residual) (size_of f) h.best_residual;
   best_density = pick (lt (size_of f) h.best_residual) rho h.best_density;
   stopped = le (size_of f) tolerance || eq rho h.lo || eq rho h.hi;
-  refused = h.refused;
 }
 
 -- a refusal of the equation ends it too
-unfoldable pub stopped_by : Halving → ℕ → Halving
-stopped_by h n = record { lo = h.lo; hi = h.hi; best_residual = h.best_residual; best_density = h.best_density; stopped = true; refused = n }
+unfoldable pub tried_of : Float → Halving → Float → Sample → Result Halving Refusal
+tried_of tolerance h rho (Ok (f, stiffness)) = Ok (narrowed_of tolerance h rho f)
+tried_of tolerance h rho (Err r) = Err r
 
-unfoldable pub tried_of : Float → Halving → Float → Sample → Halving
-tried_of tolerance h rho (Value f stiffness) = narrowed_of tolerance h rho f
-tried_of tolerance h rho (Refused n) = stopped_by h n
-
-unfoldable pub halved_of : (Float → Sample) → Float → Halving → Halving
-halved_of v tolerance h = pick h.stopped h (tried_of tolerance h (middle_of h) (v (middle_of h)))
+unfoldable pub halved_of : (Float → Sample) → Float → Halving → Result Halving Refusal
+halved_of v tolerance h = pick h.stopped (Ok h) (tried_of tolerance h (middle_of h) (v (middle_of h)))
 
 -- before the first halving the best point is the lower end, with an infinite residual
 unfoldable pub unhalved : Float → Float → Halving
-unhalved lo hi = record { lo = lo; hi = hi; best_residual = infinity; best_density = lo; stopped = false; refused = 0 }
+unhalved lo hi = record { lo = lo; hi = hi; best_residual = infinity; best_density = lo; stopped = false }
 
 -- at most 100 halvings
-unfoldable pub crossing_of : (Float → Sample) → Float → Float → Float → Halving
-crossing_of v tolerance lo hi = iter (λ k. halved_of v tolerance) 100 (unhalved lo hi)
+unfoldable pub crossing_of : (Float → Sample) → Float → Float → Float → Result Halving Refusal
+crossing_of v tolerance lo hi = iter (λ k. and_then (halved_of v tolerance)) 100 (Ok (unhalved lo hi))

@@ -1,4 +1,5 @@
--- A crossing halved, the scan over the grid, and what the code's struct and arrays stand for.
+-- A step after an answer, a crossing halved, and the scan over the grid.
+pub mod Sample
+pub mod Answers
 pub mod Halving
 pub mod Scan
-pub mod ScanArrays

@@ -1,11 +1,13 @@
 // One halving of a crossing, from the sample at its middle.
+#![tactic(auto, unfolding(crate::specs::Halving::size_of, crate::specs::Halving::larger_of, crate::specs::Halving::tolerance_of, crate::specs::Halving::unhalved, crate::specs::Halving::middle_of, crate::specs::Halving::narrowed_of, crate::specs::Halving::tried_of, numerics::specs::Middle::middle))]
 
 ghost use Rattle.std.specs.Prelude.{◌≡◌};
-ghost use Rattle.numerics.specs.Double.{pick};
-ghost use Rattle.gerg_scan_steps.specs.Halving.{size_of, larger_of, tolerance_of, middle_of, narrowed_of, stopped_by, tried_of, unhalved};
+ghost use Rattle.gerg_scan_steps.specs.Halving.{size_of, larger_of, tolerance_of, middle_of, narrowed_of, tried_of, unhalved};
 
 use crate::{Halving, Sample};
+use gerg_refusals::Refusal;
 
+// Not `abs`: a zero keeps its sign.
 pub fn size(x: f64) -> f64
     ensures { result ≡ size_of x }
 {
@@ -24,15 +26,6 @@ pub fn larger(a: f64, b: f64) -> f64
     b
 }
 
-pub fn chosen(test: bool, x: f64, y: f64) -> f64
-    ensures { result ≡ pick test x y }
-{
-    if test {
-        return x;
-    }
-    y
-}
-
 // The residual that ends a halving.
 pub fn tolerance(target: f64) -> f64
     ensures { result ≡ tolerance_of target }
@@ -49,7 +42,6 @@ pub fn unhalved_between(lo: f64, hi: f64) -> Halving
         best_residual: 1.0 / 0.0,
         best_density: lo,
         stopped: false,
-        refused: 0,
     }
 }
 
@@ -63,40 +55,23 @@ fn narrowed(tolerance: f64, h: Halving, rho: f64, f: f64) -> Halving
     ensures { result ≡ narrowed_of tolerance h rho f }
 {
     let s = size(f);
-    let below = f < 0.0;
-    let better = s < h.best_residual;
-    let lo = chosen(below, rho, h.lo);
-    let hi = chosen(below, h.hi, rho);
-    let best_residual = chosen(better, s, h.best_residual);
-    let best_density = chosen(better, rho, h.best_density);
-    Halving {
-        lo,
-        hi,
-        best_residual,
-        best_density,
-        stopped: (s <= tolerance) | (rho == h.lo) | (rho == h.hi),
-        refused: h.refused,
+    let mut after = h;
+    if f < 0.0 {
+        after.lo = rho;
+    } else {
+        after.hi = rho;
     }
+    if s < h.best_residual {
+        after.best_residual = s;
+        after.best_density = rho;
+    }
+    after.stopped = (s <= tolerance) | (rho == h.lo) | (rho == h.hi);
+    after
 }
 
-fn stopped_by(h: Halving, n: u8) -> Halving
-    ensures { result ≡ stopped_by h n }
-{
-    Halving {
-        lo: h.lo,
-        hi: h.hi,
-        best_residual: h.best_residual,
-        best_density: h.best_density,
-        stopped: true,
-        refused: n,
-    }
-}
-
-pub fn tried(tolerance: f64, h: Halving, rho: f64, sample: Sample) -> Halving
+pub fn tried(tolerance: f64, h: Halving, rho: f64, sample: Sample) -> Result<Halving, Refusal>
     ensures { result ≡ tried_of tolerance h rho sample }
 {
-    match sample {
-        Sample::Value(f, _) => narrowed(tolerance, h, rho, f),
-        Sample::Refused(n) => stopped_by(h, n),
-    }
+    let (residual, _) = sample?;
+    Ok(narrowed(tolerance, h, rho, residual))
 }

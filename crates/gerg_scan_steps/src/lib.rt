@@ -4,15 +4,14 @@
 pub mod halve;
 pub mod scanning;
 
-// At a density: the pressure less the target, and the stiffness; or the number of the refusal.
-#[derive(Clone, Copy)]
-pub enum Sample {
-    Value(f64, f64),
-    Refused(u8),
-}
+use arrayvec::ArrayVec;
+use gerg_refusals::Refusal;
 
-// A crossing that is being halved: its ends, the point with the smallest residual so far, whether it has ended, and the number of the
-// refusal that ended it, or 0.
+// At a density: the pressure less the target, and the stiffness; or the refusal.
+pub type Sample = Result<(f64, f64), Refusal>;
+
+// A crossing that is being halved: its ends, the point with the smallest residual so far, and whether it has ended. A flag: the other fields
+// say the same of a crossing that has ended, and an enum would hold them twice.
 #[derive(Clone, Copy)]
 pub struct Halving {
     pub lo: f64,
@@ -20,17 +19,22 @@ pub struct Halving {
     pub best_residual: f64,
     pub best_density: f64,
     pub stopped: bool,
-    pub refused: u8,
 }
 
-// A scan: the last grid point and the residual there, the first and the last point with stiffness ≤ 0, the number of roots found,
-// which lie in two arrays beside it, and the number of the refusal that ended the scan, or 0.
-#[derive(Clone, Copy)]
+// A density, and the residual there: the pressure less the one sought.
+#[derive(Clone, Copy, Default)]
+pub struct Point {
+    pub density: f64,
+    pub residual: f64,
+}
+
+// A scan: the last grid point and the residual there, the first and the last point with stiffness ≤ 0, and the roots found, at most one
+// for each grid point.
+#[derive(Drop)]
 pub struct Scan {
     pub previous: f64,
     pub left: f64,
     pub first_negative: f64,
     pub last_negative: f64,
-    pub count: usize,
-    pub refused: u8,
+    pub roots: ArrayVec<Point, 386>,
 }

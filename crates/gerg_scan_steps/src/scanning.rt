@@ -1,128 +1,72 @@
-// What a scan does at a grid point, from the sample there and the crossing before it. The roots found stand in the fronts of two arrays.
+// What a scan does at a grid point, from the sample there and the crossing before it.
+#![tactic(auto, unfolding(crate::specs::Scan::begun_at, crate::specs::Scan::noted_of, crate::specs::Scan::moved_of, crate::specs::Scan::rooted_of, crate::specs::Scan::apart))]
 
-ghost use Rattle.std.specs.Prelude.{List, ◌≡◌, ◌<◌, Float, length, take};
-ghost use Rattle.std.specs.Float.Ieee.{neg};
-ghost use Rattle.gerg_scan_steps.specs.Halving.{infinity};
-ghost use Rattle.gerg_scan_steps.specs.Scan.{begun_at, noted_of, moved_of, refused_by, apart};
-ghost use Rattle.gerg_scan_steps.specs.ScanArrays.{scanned_of};
-ghost use Rattle.gerg_scan_steps.specs.ScanArrays.{Same, Grown, Rooted};
+ghost use Rattle.std.specs.Prelude.{◌≡◌, ◌<◌};
+ghost use Rattle.arrayvec.specs.ArrayVec.{array_vec_len};
+ghost use Rattle.gerg_scan_steps.specs.Scan.{begun_at, noted_of, moved_of, rooted_of, densities, apart};
 
-use crate::{Halving, Sample, Scan, halve};
+use crate::{Halving, Point, Sample, Scan, halve};
+use arrayvec::ArrayVec;
+use gerg_refusals::Refusal;
 
-fn begun_from(first: f64, left: f64, refused: u8) -> Scan
-    ensures { result ≡ record { previous = first; left = left; first_negative = infinity; last_negative = neg infinity; count = 0; refused = refused } }
+// Whether a density is farther from the last root than 1e-8 of itself.
+fn is_apart(roots: &[Point], density: f64) -> bool
+    ensures { result ≡ apart density (densities roots.now) }
 {
-    let infinity = 1.0 / 0.0;
-    Scan {
-        previous: first,
-        left,
-        first_negative: infinity,
-        last_negative: -infinity,
-        count: 0,
-        refused,
+    match roots.last() {
+        None => true,
+        Some(last) => {
+            let distance = halve::size(density - last.density);
+            1e-8 * density < distance
+        }
     }
 }
 
-// The stiffness at the first grid point is not looked at.
-pub fn begun(first: f64, sample: Sample) -> Scan
-    ensures { ((d e : List Float) → scanned_of result d e ≡ begun_at first sample) × (result.count ≡ 0) }
-{
-    match sample {
-        Sample::Value(f, _) => begun_from(first, f, 0),
-        Sample::Refused(n) => begun_from(first, 0.0, n),
+impl Scan {
+    // The stiffness at the first grid point is not looked at.
+    pub fn begun(first: f64, sample: Sample) -> Result<Scan, Refusal>
+        ensures { result ≡ begun_at first sample }
+    {
+        let (left, _) = sample?;
+        let infinity = 1.0 / 0.0;
+        Ok(Scan {
+            previous: first,
+            left,
+            first_negative: infinity,
+            last_negative: -infinity,
+            roots: ArrayVec::new(),
+        })
     }
-}
 
-// A point with stiffness ≤ 0.
-pub fn noted(s: Scan, current: f64, stiffness: f64) -> Scan
-    ensures { Same (noted_of current stiffness) s result }
-{
-    let negative = stiffness <= 0.0;
-    let below = current < s.first_negative;
-    let least = halve::chosen(below, current, s.first_negative);
-    let first_negative = halve::chosen(negative, least, s.first_negative);
-    let last_negative = halve::chosen(negative, current, s.last_negative);
-    Scan {
-        previous: s.previous,
-        left: s.left,
-        first_negative,
-        last_negative,
-        count: s.count,
-        refused: s.refused,
+    // A point with stiffness ≤ 0.
+    pub fn note(&mut self, current: f64, stiffness: f64)
+        ensures { self.new ≡ noted_of current stiffness self.old }
+    {
+        if stiffness <= 0.0 {
+            if current < self.first_negative {
+                self.first_negative = current;
+            }
+            self.last_negative = current;
+        }
     }
-}
 
-pub fn moved(s: Scan, current: f64, right: f64) -> Scan
-    ensures { Same (moved_of current right) s result }
-{
-    Scan {
-        previous: current,
-        left: right,
-        first_negative: s.first_negative,
-        last_negative: s.last_negative,
-        count: s.count,
-        refused: s.refused,
+    // The best point of a crossing behind the roots.
+    pub fn root(&mut self, h: Halving)
+        requires { array_vec_len self.old.roots < 386 }
+        ensures { self.new ≡ rooted_of h self.old }
+    {
+        if is_apart(&self.roots, h.best_density) {
+            self.roots.push(Point {
+                density: h.best_density,
+                residual: h.best_residual,
+            });
+        }
     }
-}
 
-pub fn refused_by(s: Scan, n: u8) -> Scan
-    ensures { Same (refused_by n) s result }
-{
-    Scan {
-        previous: s.previous,
-        left: s.left,
-        first_negative: s.first_negative,
-        last_negative: s.last_negative,
-        count: s.count,
-        refused: n,
+    pub fn go_to(&mut self, current: f64, right: f64)
+        ensures { self.new ≡ moved_of current right self.old }
+    {
+        self.previous = current;
+        self.left = right;
     }
-}
-
-// Whether a density is farther from the last of n roots than 1e-8 of itself.
-fn is_apart(densities: &[f64; 386], n: usize, density: f64) -> bool
-    requires { (n < 386) × (length densities.now ≡ 386) }
-    ensures { result ≡ apart density (take n densities.now) }
-{
-    if n == 0 {
-        return true;
-    }
-    let distance = halve::size(density - densities[n - 1]);
-    1e-8 * density < distance
-}
-
-// The best point of a crossing behind the roots.
-fn push(
-    s: Scan,
-    density: f64,
-    residual: f64,
-    densities: &mut [f64; 386],
-    residuals: &mut [f64; 386],
-) -> Scan
-    requires { (s.count < 386) × (length densities.old ≡ 386) × (length residuals.old ≡ 386) }
-    ensures { Grown s density residual densities.old residuals.old result densities.new residuals.new }
-{
-    let n = s.count;
-    densities[n] = density;
-    residuals[n] = residual;
-    Scan {
-        previous: s.previous,
-        left: s.left,
-        first_negative: s.first_negative,
-        last_negative: s.last_negative,
-        count: n + 1,
-        refused: s.refused,
-    }
-}
-
-pub fn rooted(s: Scan, h: Halving, densities: &mut [f64; 386], residuals: &mut [f64; 386]) -> Scan
-    requires { (s.count < 386) × (length densities.old ≡ 386) × (length residuals.old ≡ 386) }
-    ensures { Rooted h s densities.old residuals.old result densities.new residuals.new }
-{
-    if h.refused != 0 {
-        return refused_by(s, h.refused);
-    }
-    if is_apart(densities, s.count, h.best_density) {
-        return push(s, h.best_density, h.best_residual, densities, residuals);
-    }
-    s
 }

@@ -1,24 +1,25 @@
 -- The run of a search: the list of its trials, the state in which it ends, and its outcome. `v` gives the verdict at each density.
-use Rattle.std.specs.Prelude.{List, [], ◌∷◌, ℕ, zero, suc, eqb, Float, length, ◌||◌}
+use Rattle.std.specs.Prelude.{List, [], ◌∷◌, ℕ, zero, suc, Float, length, ◌||◌, Ok, Err}
 use Rattle.numerics.specs.Double.{pick}
 use Rattle.gerg_search.specs.Checks.{options_refused, target_refused}
+use Rattle.gerg_search.specs.Stop.{refusal_of}
 use Rattle.gerg_search.specs.Steps.{begin_of, step_of, moved_of}
 use Rattle.gerg_search.specs.declared.Bracket.{Bracket}
 use Rattle.gerg_search.specs.declared.Options.{Options}
-use Rattle.gerg_search.specs.declared.Sample.{Sample}
+use Rattle.gerg_search.specs.Sample.{Sample}
 use Rattle.gerg_search.specs.declared.Stage.{Stage}
 use Rattle.gerg_search.specs.declared.Stage.TheVariants.{Low, High, Interior}
 use Rattle.gerg_search.specs.declared.Search.{Search}
 use Rattle.gerg_search.specs.declared.Step.{Step}
 use Rattle.gerg_search.specs.declared.Step.TheVariants.{Try, Accepted, Refused}
-use Rattle.gerg_search.specs.declared.Outcome.{Outcome}
-use Rattle.gerg_search.specs.declared.Outcome.TheVariants.{Found, Failed}
+use Rattle.gerg_search.specs.Sample.{Outcome}
+use Rattle.gerg_refusals.specs.declared.Refusal.TheVariants as refusal
 
 -- by the answer of a step: what follows a `Try`, and what stands where the search ends
 abbrev pub on_try : {A : Type 0} → Step → (Float → A) → A → A
 on_try (Try x) go end = go x
 on_try (Accepted x) go end = end
-on_try (Refused n) go end = end
+on_try (Refused c) go end = end
 
 -- an interior density is a trial, an end is none
 abbrev pub counted : Stage → Float → List Float → List Float
@@ -51,21 +52,17 @@ last_of o v = last_from o v (steps o) (begin_of o)
 unfoldable pub answer_of : Options → (Float → Sample) → Step
 answer_of o v = step_of o (last_of o v) (v (last_of o v).density)
 
--- "18 .. trials, 19 .. trials"; the value is 0 unless given
-unfoldable pub refusal_value : ℕ → ℕ → ℕ
-refusal_value number trials = pick (eqb number 18 || eqb number 19) trials 0
-
 -- "The reported count is the list's length"; the last bracket is the one before the trial that was accepted. (No search ends in a `Try`.)
 unfoldable pub reported : Step → ℕ → Bracket → Outcome
-reported (Try x) trials b = Failed 0 0
-reported (Accepted x) trials b = Found x trials b
-reported (Refused n) trials b = Failed n (refusal_value n trials)
+reported (Try x) trials b = Err refusal.NotBracketed
+reported (Accepted x) trials b = Ok (record { density = x; trials = trials; bracket = b })
+reported (Refused c) trials b = Err (refusal_of c trials)
 
 -- rows 13 and 14, then the search
 unfoldable pub outcome_of : Float → Float → Options → (Float → Sample) → Outcome
 outcome_of high target o v =
-    pick (options_refused o) (Failed 13 0)
-    (pick (target_refused high target) (Failed 14 0)
+    pick (options_refused o) (Err refusal.Options)
+    (pick (target_refused high target) (Err refusal.Target)
     (reported (answer_of o v) (length (searched o v)) (last_of o v).bracket))
 
 -- the trials of the whole: none where the search is not begun

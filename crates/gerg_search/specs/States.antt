@@ -7,7 +7,7 @@ use Rattle.gerg_search.specs.Steps.{begin_of, step_of, moved_of}
 use Rattle.gerg_search.specs.Run.{on_try}
 use Rattle.gerg_search.specs.declared.Bracket.{Bracket}
 use Rattle.gerg_search.specs.declared.Options.{Options}
-use Rattle.gerg_search.specs.declared.Sample.{Sample}
+use Rattle.gerg_search.specs.Sample.{Sample}
 use Rattle.gerg_search.specs.declared.Search.{Search}
 
 -- the ends are doubles, as every f64 is

@@ -1,17 +1,17 @@
 -- One step of a search: the verdict at the density being tried, and what to do next. `o` is what the caller chose, `s` the state.
-use Rattle.std.specs.Prelude.{ℕ, ◌+◌, ◌||◌, leb, Float}
+use Rattle.std.specs.Prelude.{ℕ, ◌+◌, ◌||◌, leb, Float, Ok, Err}
 use Rattle.std.specs.Float.Ieee.{lt}
 use Rattle.numerics.specs.Double.{+0, pick}
 use Rattle.gerg_search.specs.Point.{middle_of, next_of, narrowed_of, collapsed_at, within_of}
 use Rattle.gerg_search.specs.declared.Bracket.{Bracket}
 use Rattle.gerg_search.specs.declared.Options.{Options}
-use Rattle.gerg_search.specs.declared.Sample.{Sample}
-use Rattle.gerg_search.specs.declared.Sample.TheVariants.{Residual, Stopped}
+use Rattle.gerg_search.specs.Sample.{Sample}
 use Rattle.gerg_search.specs.declared.Stage.{Stage}
 use Rattle.gerg_search.specs.declared.Stage.TheVariants.{Low, High, Interior}
 use Rattle.gerg_search.specs.declared.Search.{Search}
 use Rattle.gerg_search.specs.declared.Step.{Step}
 use Rattle.gerg_search.specs.declared.Step.TheVariants.{Try, Accepted, Refused}
+use Rattle.gerg_search.specs.declared.Stop.TheVariants as stop
 
 -- "Ends are tried first, low then high"
 unfoldable pub begin_of : Options → Search
@@ -19,7 +19,7 @@ begin_of o = record { stage = Low; density = o.bracket.lo; bracket = o.bracket; 
 
 -- "collapsed (row 18), before the limit is looked at" (row 19)
 unfoldable pub go_on_of : ℕ → ℕ → Bracket → Float → Step
-go_on_of limit trials b x = pick (collapsed_at b x) (Refused 18) (pick (leb limit trials) (Refused 19) (Try x))
+go_on_of limit trials b x = pick (collapsed_at b x) (Refused stop.Collapsed) (pick (leb limit trials) (Refused stop.LimitReached) (Try x))
 
 -- an interior trial: accepted within the tolerance, else on with the narrowed bracket and its next point
 unfoldable pub interior_of : Options → Search → Float → Float → Step
@@ -32,7 +32,7 @@ unfoldable pub ends_of : Options → Float → Float → Step
 ends_of o flo fhi =
     pick (within_of o.tolerance flo) (Accepted o.bracket.lo)
     (pick (within_of o.tolerance fhi) (Accepted o.bracket.hi)
-    (pick (lt +0 flo || lt fhi +0) (Refused 16) (Try (middle_of o.bracket))))
+    (pick (lt +0 flo || lt fhi +0) (Refused stop.NotBracketed) (Try (middle_of o.bracket))))
 
 -- by which density is being tried
 unfoldable pub stage_of : Options → Search → Float → Float → Stage → Step
@@ -42,8 +42,8 @@ stage_of o s f derivative Interior = interior_of o s f derivative
 
 -- "Each step's answer is one of three: try this density, accepted at this density, refused"
 unfoldable pub step_of : Options → Search → Sample → Step
-step_of o s (Residual f derivative) = stage_of o s f derivative s.stage
-step_of o s (Stopped n) = Refused n
+step_of o s (Ok (f, derivative)) = stage_of o s f derivative s.stage
+step_of o s (Err r) = Refused (stop.Trial r)
 
 -- the state in which x, the density that the step said, is tried
 unfoldable pub moved_by : Search → Float → Float → Stage → Search
@@ -53,5 +53,5 @@ moved_by s f x Interior = record { stage = Interior; density = x; bracket = narr
 
 -- (after a refusal there is none: the state stays)
 unfoldable pub moved_of : Search → Sample → Float → Search
-moved_of s (Residual f derivative) x = moved_by s f x s.stage
-moved_of s (Stopped n) x = s
+moved_of s (Ok (f, derivative)) x = moved_by s f x s.stage
+moved_of s (Err r) x = s

@@ -1,4 +1,5 @@
 // What is tested before any density is tried (rows 13 and 14).
+#![tactic(auto, unfolding(crate::specs::Checks::options_refused, crate::specs::Checks::target_refused))]
 
 ghost use Rattle.std.specs.Prelude.{◌≡◌};
 ghost use Rattle.gerg_search.specs.Checks.{options_refused, target_refused};

@@ -2,6 +2,11 @@
 // one density and answers what to do next. All that a search knows is in one struct by value.
 #![tactic(auto)]
 
+ghost use Rattle.std.specs.Prelude.{◌≡◌};
+ghost use Rattle.gerg_search.specs.Stop.{refusal_of};
+
+use gerg_refusals::Refusal;
+
 pub mod checks;
 pub mod point;
 pub mod steps;
@@ -21,12 +26,8 @@ pub struct Options {
     pub tolerance: f64,
 }
 
-// The verdict of a trial at a density: the scaled residual and the scaled derivative, or the number of the refusal that stopped it.
-#[derive(Clone, Copy)]
-pub enum Sample {
-    Residual(f64, f64),
-    Stopped(u8),
-}
+// The verdict of a trial at a density: the scaled residual and the scaled derivative, or the refusal that stopped it.
+pub type Sample = Result<(f64, f64), Refusal>;
 
 // Which density is being tried.
 #[derive(Clone, Copy)]
@@ -47,24 +48,44 @@ pub struct Search {
     pub trials: usize,
 }
 
-// What a step answers: try this density, accepted at this density, refused (with the number of the cause).
+// Why a step refuses: its trial's own refusal, or a row of the search.
+#[derive(Clone, Copy, Debug, PartialEq, Eq)]
+pub enum Stop {
+    Trial(Refusal),
+    NotBracketed,
+    Collapsed,
+    LimitReached,
+}
+
+impl Stop {
+    // The refusal of a search that made so many trials.
+    pub fn refusal(self, trials: usize) -> Refusal
+        ensures { result ≡ refusal_of self trials }
+    {
+        match self {
+            Stop::Trial(refusal) => refusal,
+            Stop::NotBracketed => Refusal::NotBracketed,
+            Stop::Collapsed => Refusal::Collapsed { trials },
+            Stop::LimitReached => Refusal::LimitReached { trials },
+        }
+    }
+}
+
+// What a step answers: try this density, accepted at this density, refused.
 #[derive(Clone, Copy)]
 pub enum Step {
     Try(f64),
     Accepted(f64),
-    Refused(u8),
+    Refused(Stop),
+}
+
+// An accepted density, the trials made, and the bracket before the last of them.
+#[derive(Clone, Copy)]
+pub struct Found {
+    pub density: f64,
+    pub trials: usize,
+    pub bracket: Bracket,
 }
 
 // How a search ends.
-#[derive(Clone, Copy)]
-pub enum Outcome {
-    Found {
-        density: f64,
-        trials: usize,
-        bracket: Bracket,
-    },
-    Failed {
-        number: u8,
-        value: usize,
-    },
-}
+pub type Outcome = Result<Found, Refusal>;

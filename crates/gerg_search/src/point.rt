@@ -1,4 +1,5 @@
 // The next density of a bracket.
+#![tactic(auto, unfolding(crate::specs::Point::middle_of, crate::specs::Point::inside_of, crate::specs::Point::next_of, crate::specs::Point::narrowed_of, crate::specs::Point::collapsed_at, crate::specs::Point::within_of, numerics::specs::Middle::middle))]
 
 ghost use Rattle.std.specs.Prelude.{◌≡◌};
 ghost use Rattle.gerg_search.specs.Point.{middle_of, inside_of, next_of, narrowed_of, collapsed_at, within_of};
@@ -36,9 +37,9 @@ pub fn narrowed(b: Bracket, rho: f64, f: f64) -> Bracket
     ensures { result ≡ narrowed_of b rho f }
 {
     if f < 0.0 {
-        return Bracket { lo: rho, hi: b.hi };
+        return Bracket { lo: rho, ..b };
     }
-    Bracket { lo: b.lo, hi: rho }
+    Bracket { hi: rho, ..b }
 }
 
 // Whether the next point is not strictly between the ends.
@@ -49,11 +50,9 @@ pub fn collapsed(b: Bracket, x: f64) -> bool
 }
 
 // Whether a residual is within the tolerance.
+#[tactic(auto, using(crate::proofs::Size::size_within), unfolding(crate::specs::Point::within_of))]
 pub fn within(tolerance: f64, f: f64) -> bool
     ensures { result ≡ within_of tolerance f }
 {
-    if f < 0.0 {
-        return -f <= tolerance;
-    }
-    f <= tolerance
+    f.abs() <= tolerance
 }

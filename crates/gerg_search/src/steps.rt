@@ -1,9 +1,10 @@
 // One step of a search, and the state after it.
+#![tactic(auto, unfolding(crate::specs::Steps::begin_of, crate::specs::Steps::go_on_of, crate::specs::Steps::interior_of, crate::specs::Steps::ends_of, crate::specs::Steps::stage_of, crate::specs::Steps::step_of, crate::specs::Steps::moved_by, crate::specs::Steps::moved_of))]
 
 ghost use Rattle.std.specs.Prelude.{◌≡◌, ◌+◌, ◌^◌, ◌<◌};
 ghost use Rattle.gerg_search.specs.Steps.{begin_of, go_on_of, interior_of, ends_of, stage_of, step_of, moved_by, moved_of};
 
-use crate::{Bracket, Options, Sample, Search, Stage, Step, point};
+use crate::{Bracket, Options, Sample, Search, Stage, Step, Stop, point};
 
 // A search before its first trial, which is at the low end.
 pub fn begin(o: Options) -> Search
@@ -20,17 +21,16 @@ pub fn begin(o: Options) -> Search
 }
 
 // Collapsed is looked at before the limit.
-#[tactic(auto, unfolding(crate::specs::Steps::go_on_of))]
 fn go_on(limit: usize, trials: usize, b: Bracket, x: f64) -> Step
     ensures { result ≡ go_on_of limit trials b x }
 {
     let collapsed = point::collapsed(b, x);
     let limit_reached = limit <= trials;
     if collapsed {
-        return Step::Refused(18);
+        return Step::Refused(Stop::Collapsed);
     }
     if limit_reached {
-        return Step::Refused(19);
+        return Step::Refused(Stop::LimitReached);
     }
     Step::Try(x)
 }
@@ -60,7 +60,7 @@ fn ends(o: Options, flo: f64, fhi: f64) -> Step
         return Step::Accepted(b.hi);
     }
     if (flo > 0.0) | (fhi < 0.0) {
-        return Step::Refused(16);
+        return Step::Refused(Stop::NotBracketed);
     }
     Step::Try(point::middle(b))
 }
@@ -68,12 +68,8 @@ fn ends(o: Options, flo: f64, fhi: f64) -> Step
 fn staged(o: Options, s: Search, f: f64, derivative: f64) -> Step
     ensures { result ≡ stage_of o s f derivative s.stage }
 {
-    let stage = s.stage;
-    match stage {
-        Stage::Low => {
-            let b = o.bracket;
-            Step::Try(b.hi)
-        }
+    match s.stage {
+        Stage::Low => Step::Try(o.bracket.hi),
         Stage::High => ends(o, s.low_residual, f),
         Stage::Interior => interior(o, s, f, derivative),
     }
@@ -84,8 +80,8 @@ pub fn advance(o: Options, s: Search, sample: Sample) -> Step
     ensures { result ≡ step_of o s sample }
 {
     match sample {
-        Sample::Stopped(n) => Step::Refused(n),
-        Sample::Residual(f, derivative) => staged(o, s, f, derivative),
+        Err(refusal) => Step::Refused(Stop::Trial(refusal)),
+        Ok((f, derivative)) => staged(o, s, f, derivative),
     }
 }
 
@@ -93,33 +89,25 @@ fn moved_by(s: Search, f: f64, x: f64) -> Search
     requires { s.trials + 1 < 2 ^ 64 }
     ensures { result ≡ moved_by s f x s.stage }
 {
-    let stage = s.stage;
-    let b = s.bracket;
-    match stage {
+    match s.stage {
         Stage::Low => Search {
             stage: Stage::High,
             density: x,
-            bracket: b,
             low_residual: f,
-            trials: s.trials,
+            ..s
         },
         Stage::High => Search {
             stage: Stage::Interior,
             density: x,
-            bracket: b,
-            low_residual: s.low_residual,
             trials: s.trials + 1,
+            ..s
         },
-        Stage::Interior => {
-            let n = point::narrowed(b, s.density, f);
-            Search {
-                stage: Stage::Interior,
-                density: x,
-                bracket: n,
-                low_residual: s.low_residual,
-                trials: s.trials + 1,
-            }
-        }
+        Stage::Interior => Search {
+            density: x,
+            bracket: point::narrowed(s.bracket, s.density, f),
+            trials: s.trials + 1,
+            ..s
+        },
     }
 }
 
@@ -129,7 +117,7 @@ pub fn moved(s: Search, sample: Sample, x: f64) -> Search
     ensures { result ≡ moved_of s sample x }
 {
     match sample {
-        Sample::Stopped(_) => s,
-        Sample::Residual(f, _) => moved_by(s, f, x),
+        Err(_) => s,
+        Ok((f, _)) => moved_by(s, f, x),
     }
 }

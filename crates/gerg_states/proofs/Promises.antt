@@ -18,14 +18,16 @@ use Rattle.generator.proofs.Laws.Word as generator
 use Rattle.gerg_file.specs.Counts.{sum}
 use Rattle.gerg_coefficients.specs.Answer.{tables_of}
 use Rattle.gerg.specs.Helmholtz.{normal_range, within_range}
-use Rattle.gerg_prepared.specs.Mixed.{mixed_of, number_of, value_of}
-use Rattle.gerg_prepared.specs.declared.Refusal.{Refusal}
-use Rattle.gerg_prepared.specs.declared.Refusal.TheVariants.{Nothing, Refused}
-use Rattle.gerg_prepared.proofs.Laws.{memory_nothing}
+use Rattle.std.specs.Prelude.{Result, Ok, Err}
+use Rattle.std.proofs.Common.{mod-eq_of_lt}
+use Rattle.gerg_refusals.specs.Answer.{number_of, value_of, passed, and_then, memory_of}
+use Rattle.gerg_refusals.specs.Code.{code_of}
+use Rattle.gerg_refusals.specs.declared.Refusal.{Refusal}
+use Rattle.gerg_refusals.specs.declared.Refusal.TheVariants as refusal
+use Rattle.gerg_refusals.proofs.Then.{then_err, memory_ok, memory_err, accepted}
+use Rattle.gerg_prepared.specs.Mixed.{mixed_of}
+use Rattle.gerg_prepared.specs.declared.Mixed.{Mixed}
 use Rattle.gerg_prepared.proofs.Numbers.{rows_at_most_5, rows_value}
-use Rattle.gerg_prepared.proofs.Refused.{after_refused, memory_refused, nothing_refused}
-use Rattle.gerg_answers.specs.PropertiesNumbers as ofProperties
-use Rattle.gerg_answers.proofs.Laws.{code_whole}
 use Rattle.gerg_calls.specs.Calls.{properties_of}
 use Rattle.gerg_states.specs.declared.Run.{Run}
 use Rattle.gerg_states.specs.States.{seed_refusal, state_written, number_at, count_of, counts_of, run_of, run_refusal, counts_written, refusal_code}
@@ -33,9 +35,9 @@ use Rattle.gerg_states.proofs.Laws.Counts.{count_one, count_split, count_none, c
 use Rattle.gerg_states.proofs.Laws.Numbers.{number_at_most, state_within, number_late, prepared_number, after_seed, accepted_counts}
 
 -- ---- a refusal's number and value
-coded : (r : Refusal) → value_of r < 2 ^ 32 → refusal_code r ≡ number_of r * 2 ^ 32 + value_of r
-unfolding refusal_code
-coded r h = code_whole (number_of r) (value_of r) h
+coded : (x : Result (Unit {0}) Refusal) → value_of x < 2 ^ 32 → refusal_code x ≡ number_of x * 2 ^ 32 + value_of x
+unfolding refusal_code code_of
+coded x h = ap (λ (v : ℕ). number_of x * 2 ^ 32 + v) (mod-eq_of_lt h)
 
 no_27 : ◌≡◌ {A = ℕ} 27 0 → ⊥
 no_27 e = omega arith
@@ -44,26 +46,26 @@ above_zero : (n : ℕ) → suc n ≡ 0 → ⊥
 above_zero n e = omega arith
 
 -- "27, a zero seed", value 0
-pub zero_seed : seed_refusal 0 ≡ Refused 27 0
+pub zero_seed : seed_refusal 0 ≡ Err refusal.ZeroSeed
 unfolding seed_refusal
 zero_seed = refl
 
-pub other_seed : (seed : ℕ) → (seed ≡ 0 → ⊥) → seed_refusal seed ≡ Nothing
+pub other_seed : (seed : ℕ) → (seed ≡ 0 → ⊥) → seed_refusal seed ≡ passed
 unfolding seed_refusal
 other_seed seed h = rw (ne_eqb seed 0 h)
 
 -- ---- `state_at`
 pub state_code : (seed : ℕ) → refusal_code (seed_refusal seed) ≡ number_of (seed_refusal seed) * 2 ^ 32 + value_of (seed_refusal seed)
-state_code zero = coded (seed_refusal zero) (subst (λ (r : Refusal). value_of r < 2 ^ 32) (sym zero_seed) (omega arith))
-state_code (suc seed) = coded (seed_refusal (suc seed)) (subst (λ (r : Refusal). value_of r < 2 ^ 32) (sym (other_seed (suc seed) (above_zero seed))) (omega arith))
+state_code zero = coded (seed_refusal zero) (subst (λ (x : Result (Unit {0}) Refusal). value_of x < 2 ^ 32) (sym zero_seed) (omega arith))
+state_code (suc seed) = coded (seed_refusal (suc seed)) (subst (λ (x : Result (Unit {0}) Refusal). value_of x < 2 ^ 32) (sym (other_seed (suc seed) (above_zero seed))) (omega arith))
 
 pub state_leaves : (n : ℕ) (out : List Float) → state_written 0 n out ≡ out
 unfolding state_written
-state_leaves n out = sym (memory_refused (seed_refusal 0) out ((state_of 0 n).temperature ∷ (state_of 0 n).density ∷ []) 27 0 zero_seed)
+state_leaves n out = memory_err (seed_refusal 0) out (λ u. (state_of 0 n).temperature ∷ (state_of 0 n).density ∷ []) refusal.ZeroSeed zero_seed
 
 pub state_writes : (seed n : ℕ) (out : List Float) → (seed ≡ 0 → ⊥) → state_written seed n out ≡ (state_of seed n).temperature ∷ (state_of seed n).density ∷ []
 unfolding state_written
-state_writes seed n out h = memory_nothing (seed_refusal seed) out ((state_of seed n).temperature ∷ (state_of seed n).density ∷ []) (other_seed seed h)
+state_writes seed n out h = memory_ok (seed_refusal seed) out (λ u. (state_of seed n).temperature ∷ (state_of seed n).density ∷ []) tt (other_seed seed h)
 
 -- "State n .. has to be the same whether reached alone or in a run": alone, by `state_at`; in a run, drawn after those before it, from state `first` on
 pub alone_or_in_a_run :
@@ -83,42 +85,51 @@ never_zero = generator.never_zero
 -- ---- `count_refusals`
 module _ (bytes list : List ℕ) (fractions : List Float) where
   -- 27 comes before rows 1 to 5
-  pub zero_seed_first : run_refusal bytes list fractions 0 ≡ Refused 27 0
+  pub zero_seed_first : run_refusal bytes list fractions 0 ≡ Err refusal.ZeroSeed
   unfolding run_refusal
-  zero_seed_first = sym (after_refused Refused (seed_refusal 0) (mixed_of bytes list fractions).refusal 27 0 zero_seed)
+  zero_seed_first = then_err (seed_refusal 0) (λ u. and_then (mixed_of bytes list fractions) (λ m. passed)) refusal.ZeroSeed zero_seed
 
-  pub then_rows : (seed : ℕ) → (seed ≡ 0 → ⊥) → run_refusal bytes list fractions seed ≡ (mixed_of bytes list fractions).refusal
+  pub then_rows : (seed : ℕ) → (seed ≡ 0 → ⊥) → run_refusal bytes list fractions seed ≡ and_then (mixed_of bytes list fractions) (λ m. passed)
   then_rows seed h = after_seed bytes list fractions seed (other_seed seed h)
+
+  -- their numbers and values are those of the mixture
+  rows_number : (x : Result Mixed Refusal) → number_of (and_then x (λ m. passed)) ≡ number_of x
+  rows_number (Ok m) = refl
+  rows_number (Err r) = refl
+
+  rows_values : (x : Result Mixed Refusal) → value_of (and_then x (λ m. passed)) ≡ value_of x
+  rows_values (Ok m) = refl
+  rows_values (Err r) = refl
 
   pub run_number : (seed : ℕ) → (number_of (run_refusal bytes list fractions seed) ≤ 5) ⊎ (number_of (run_refusal bytes list fractions seed) ≡ 27)
   run_number zero = inr (ap number_of zero_seed_first)
-  run_number (suc seed) = inl (subst (λ (r : Refusal). number_of r ≤ 5) (sym (then_rows (suc seed) (above_zero seed))) (rows_at_most_5 bytes list fractions))
+  run_number (suc seed) = inl (subst (λ (n : ℕ). n ≤ 5) (sym (ap number_of (then_rows (suc seed) (above_zero seed)) ∙ rows_number (mixed_of bytes list fractions))) (rows_at_most_5 bytes list fractions))
 
   pub run_value : (seed : ℕ) → value_of (run_refusal bytes list fractions seed) < 2 ^ 32
-  run_value zero = subst (λ (r : Refusal). value_of r < 2 ^ 32) (sym zero_seed_first) (omega arith)
-  run_value (suc seed) = subst (λ (r : Refusal). value_of r < 2 ^ 32) (sym (then_rows (suc seed) (above_zero seed))) (rows_value bytes list fractions)
+  run_value zero = subst (λ (x : Result (Unit {0}) Refusal). value_of x < 2 ^ 32) (sym zero_seed_first) (omega arith)
+  run_value (suc seed) = subst (λ (n : ℕ). n < 2 ^ 32) (sym (ap value_of (then_rows (suc seed) (above_zero seed)) ∙ rows_values (mixed_of bytes list fractions))) (rows_value bytes list fractions)
 
   pub run_code : (seed : ℕ) → refusal_code (run_refusal bytes list fractions seed) ≡ number_of (run_refusal bytes list fractions seed) * 2 ^ 32 + value_of (run_refusal bytes list fractions seed)
   run_code seed = coded (run_refusal bytes list fractions seed) (run_value seed)
 
   -- number 0 is no refusal's: the seed is not 0, and rows 1 to 5 refuse nothing
-  pub run_accepted : (seed : ℕ) → number_of (run_refusal bytes list fractions seed) ≡ 0 → (run_refusal bytes list fractions seed ≡ Nothing) × ((mixed_of bytes list fractions).refusal ≡ Nothing)
+  pub run_accepted : (seed : ℕ) → number_of (run_refusal bytes list fractions seed) ≡ 0 → (m : Mixed) × (run_refusal bytes list fractions seed ≡ passed) × (mixed_of bytes list fractions ≡ Ok m)
   run_accepted zero e = absurd (no_27 (sym (ap number_of zero_seed_first) ∙ e))
   run_accepted (suc seed) e =
       let r = then_rows (suc seed) (above_zero seed) in
-      let n = nothing_refused bytes list fractions (sym (ap number_of r) ∙ e) in
-      (r ∙ n, n)
+      let p = accepted (mixed_of bytes list fractions) (sym (rows_number (mixed_of bytes list fractions)) ∙ sym (ap number_of r) ∙ e) in
+      (p.0, r ∙ ap (λ (x : Result Mixed Refusal). and_then x (λ m. passed)) p.1, p.1)
 
   -- "Every row leaves all lent memory as it was"
   pub counts_leave : (run : Run) (out : List ℕ) → (number_of (run_refusal bytes list fractions run.seed) ≡ 0 → ⊥) → counts_written bytes list fractions run out ≡ out
   unfolding counts_written
-  counts_leave run out h = go (run_refusal bytes list fractions run.seed) refl
+  counts_leave run out h = go (run_refusal bytes list fractions run.seed) h
     where
-      go : (r : Refusal) → run_refusal bytes list fractions run.seed ≡ r → counts_written bytes list fractions run out ≡ out
-      go Nothing e = absurd (h (ap number_of e))
-      go (Refused number value) e = sym (memory_refused (run_refusal bytes list fractions run.seed) out (counts_of bytes list fractions run) number value e)
+      go : (x : Result (Unit {0}) Refusal) → (number_of x ≡ 0 → ⊥) → memory_of x out (λ u. counts_of bytes list fractions run) ≡ out
+      go (Ok u) h = absurd (h refl)
+      go (Err r) h = refl
 
-  module _ (seed : ℕ) (accepted : number_of (run_refusal bytes list fractions seed) ≡ 0) where
+  module _ (seed : ℕ) (nothing : number_of (run_refusal bytes list fractions seed) ≡ 0) where
     -- place k of what an accepted call writes, whatever was lent
     abbrev counted : ℕ → ℕ → List ℕ → ℕ → ℕ
     counted first states out k = get_or (counts_written bytes list fractions (run_of seed first states) out) k 0
@@ -126,20 +137,20 @@ module _ (bytes list : List ℕ) (fractions : List Float) where
     -- "for each number how many of" the states "`properties_of` refuses under it"
     pub counts_write : (first states k : ℕ) (out : List ℕ) → k < 38 → counted first states out k ≡ count_of (number_at bytes list fractions seed) first states k
     counts_write first states k out h =
-        ap (λ (l : List ℕ). get_or l k 0) (accepted_counts bytes list fractions (run_of seed first states) out (run_accepted seed accepted).0)
+        ap (λ (l : List ℕ). get_or l k 0) (accepted_counts bytes list fractions (run_of seed first states) out (run_accepted seed nothing).1)
         ∙ get_d_tabulate (count_of (number_at bytes list fractions seed) first states) 38 k 0 h
 
     -- in a run of the one state n the count is of what `properties` answers at the T and the density that `state_at` writes for n
     pub counts_alone :
         (n k : ℕ) (out : List ℕ) (lent : List Float) → k < 38 →
-        let s = state_written seed n lent in counted n 1 out k ≡ pick (eqb (ofProperties.number_of (properties_of bytes list fractions (get_or s 0 nan) (get_or s 1 nan))) k) 1 0
+        let s = state_written seed n lent in counted n 1 out k ≡ pick (eqb (number_of (properties_of bytes list fractions (get_or s 0 nan) (get_or s 1 nan))) k) 1 0
     unfolding number_at
     counts_alone n k out lent h =
         counts_write n 1 k out h ∙ count_one (number_at bytes list fractions seed) n k
-        ∙ ap (λ (s : List Float). pick (eqb (ofProperties.number_of (properties_of bytes list fractions (get_or s 0 nan) (get_or s 1 nan))) k) 1 0) (sym (state_writes seed n lent no_zero))
+        ∙ ap (λ (s : List Float). pick (eqb (number_of (properties_of bytes list fractions (get_or s 0 nan) (get_or s 1 nan))) k) 1 0) (sym (state_writes seed n lent no_zero))
       where
         no_zero : seed ≡ 0 → ⊥
-        no_zero e = no_27 (sym (ap number_of zero_seed_first) ∙ ap (λ (n : ℕ). number_of (run_refusal bytes list fractions n)) (sym e) ∙ accepted)
+        no_zero e = no_27 (sym (ap number_of zero_seed_first) ∙ ap (λ (n : ℕ). number_of (run_refusal bytes list fractions n)) (sym e) ∙ nothing)
 
     -- "a run's counts are the sums of its two parts' wherever it is split"
     pub counts_split : (first a b k : ℕ) (out out₁ out₂ : List ℕ) → k < 38 → counted first (a + b) out k ≡ counted first a out₁ k + counted (first + a) b out₂ k
@@ -149,8 +160,9 @@ module _ (bytes list : List ℕ) (fractions : List Float) where
 
     number_place : (n : ℕ) → number_at bytes list fractions seed n < 38
     number_place n =
-        let e = prepared_number bytes list fractions (run_accepted seed accepted).1 seed n in
-        omega (arith, number_at_most (tables_of bytes) (mixed_of bytes list fractions).model (state_of seed n))
+        let p = run_accepted seed nothing in
+        let e = prepared_number bytes list fractions p.0 p.2 seed n in
+        omega (arith, number_at_most (tables_of bytes) (p.0).model (state_of seed n))
 
     -- "the counts and the accepted add up to N"
     pub counts_total : (first states : ℕ) (out : List ℕ) → sum (counted first states out) 38 ≡ states
@@ -161,7 +173,8 @@ module _ (bytes list : List ℕ) (fractions : List Float) where
     -- "numbers 6, 7, 8 never occur in the counts"
     pub counts_no_6_to_8 : (first states k : ℕ) (out : List ℕ) → 6 ≤ k → k ≤ 8 → counted first states out k ≡ 0
     counts_no_6_to_8 first states k out l h =
+        let p = run_accepted seed nothing in
         counts_write first states k out (omega arith)
         ∙ count_none (number_at bytes list fractions seed) first states k
-        (λ n e. number_late seed n (tables_of bytes) (mixed_of bytes list fractions).model
-        (let q : number_at bytes list fractions seed n ≡ _ = prepared_number bytes list fractions (run_accepted seed accepted).1 seed n in (omega arith, omega arith)))
+        (λ n e. number_late seed n (tables_of bytes) (p.0).model
+        (let q : number_at bytes list fractions seed n ≡ _ = prepared_number bytes list fractions p.0 p.2 seed n in (omega arith, omega arith)))

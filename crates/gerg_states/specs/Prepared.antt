@@ -6,7 +6,7 @@ use Rattle.gerg_tables.specs.declared.Tables.{Tables}
 use Rattle.gerg_reducing.specs.declared.GergModel.{GergModel}
 use Rattle.gerg.specs.Helmholtz.{normal_range}
 use Rattle.gerg.specs.Evaluate.{evaluate_of}
-use Rattle.gerg.specs.EvaluateNumbers.{number_of}
+use Rattle.gerg_refusals.specs.Answer.{number_of}
 use Rattle.gerg_states.specs.declared.Run.{Run}
 use Rattle.gerg_states.specs.States.{counts_by}
 

@@ -4,7 +4,7 @@
 ghost use Rattle.std.specs.Prelude.{◌≡◌};
 ghost use Rattle.gerg_states.specs.States as is;
 
-use gerg_prepared::Refusal;
+use gerg_refusals::{Refusal, code};
 
 pub mod counts;
 pub mod state;
@@ -18,24 +18,20 @@ pub struct Run {
 }
 
 // Number 27.
-fn seed_refusal(seed: u64) -> Refusal
+#[tactic(auto, unfolding(crate::specs::States::seed_refusal))]
+fn seed_refusal(seed: u64) -> Result<(), Refusal>
     ensures { result ≡ is.seed_refusal seed }
 {
     if seed == 0 {
-        return Refusal::Refused {
-            number: 27,
-            value: 0,
-        };
+        return Err(Refusal::ZeroSeed);
     }
-    Refusal::Nothing
+    Ok(())
 }
 
-// What a C export makes of a refusal.
-pub fn refusal_code(refusal: Refusal) -> u64
-    ensures { result ≡ is.refusal_code refusal }
+// What a C export makes of an answer.
+#[tactic(auto, unfolding(crate::specs::States::refusal_code, gerg_refusals::specs::Code::code))]
+pub fn refusal_code(answer: Result<(), Refusal>) -> u64
+    ensures { result ≡ is.refusal_code answer }
 {
-    match refusal {
-        Refusal::Nothing => 0,
-        Refusal::Refused { number, value } => gerg_answers::code(number, value),
-    }
+    code::code(answer.map(|()| 0))
 }

@@ -1,3 +1,4 @@
 -- Laws of the check, and what it leaves.
+pub mod Finite
 pub mod Some
 pub mod Faults

@@ -1,64 +1,43 @@
--- A search through the components: from component j on, what is left gives what the whole gives.
-use mathlib.Core.Path.{◌≡◌, refl, sym, ap, ◌∙◌}
-use mathlib.Core.Bool.{Bool, true, false, not, ◌&&◌, ◌||◌, cond}
-use Prim.Native.Nat.{ℕ, zero, suc, ◌+◌, ◌-◌, ◌≤◌, ◌<◌}
+-- What `any` finds among the components from one on, and a search for the first fault that goes on. Assumes nothing.
+use denote.Param.Members.{Mut}
+use mathlib.Core.Bool.{Bool, ◌||◌}
+use mathlib.Core.Path.{◌≡◌, refl, ap, ◌∙◌}
+use Prim.Native.Nat.{ℕ, zero, suc, ◌+◌, ◌-◌, ◌<◌}
 use native.Mathlib.Omega.{arith}
-use Rattle.gerg_tables.specs.Check.{some, some_from, or_else, first}
+use Rattle.std.proofs.Common.{Result, Ok, Err}
+use Rattle.std.proofs.iter.Yields.{nat_range_steps}
+use Rattle.std.proofs.lemmas.Iterator.{YieldsList-from_range}
+use Rattle.std.proofs.lemmas.Iterator.Search.{any_from_yields_List}
+use Rattle.std.specs.Fn.{Called}
+use Rattle.std.specs.Iterator.{ChecksAny}
+use Rattle.std.specs.List.{list_any, range_with_len}
+use Rattle.std.specs.declared.ops.Range.{Range}
+use Rattle.gerg_refusals.specs.declared.Fault.{Fault}
+use Rattle.gerg_tables.specs.Check.{some, some_from, first_of, first}
 
-module _ (f : ℕ → Bool) (j : ℕ) {v : Bool} (r : v ≡ some_from f j) where
-  tested : {b t : Bool} → j < 21 → b ≡ f j → b ≡ t → v ≡ t || some_from f (j + 1)
-  unfolding some
-  tested h e q =
-      r ∙ ap (λ (m : ℕ). some f m j) (let g : 21 - j ≡ suc (21 - (j + 1)) = omega arith in g)
-      ∙ ap (λ (b : Bool). b || some_from f (j + 1)) (sym e ∙ q)
+any_some : (f : ℕ → Bool) (n a : ℕ) → list_any f (range_with_len a n) ≡ some f n a
+unfolding some
+any_some f zero a = refl
+any_some f (suc n) a = ap (λ (b : Bool). f a || b) (any_some f n (a + 1))
 
-  pub go : {b : Bool} → j < 21 → b ≡ f j → b ≡ false → v ≡ some_from f (j + 1)
-  go h e q = tested h e q
-
-  pub stop : {b : Bool} → j < 21 → b ≡ f j → b ≡ true → v ≡ true
-  stop h e q = tested h e q
-
-  pub done : 21 ≤ j → v ≡ false
-  unfolding some
-  done h = r ∙ ap (λ (m : ℕ). some f m j) (let g : 21 - j ≡ 0 = omega arith in g)
-
--- the first of two faults
-pub taken : {a c : ℕ} (b : ℕ) → a ≡ c → 0 < a → a ≡ or_else c b
-taken {a = a} {c = zero} b e h = omega arith
-taken {c = suc c} b e h = e
-
-pub passed : {a c : ℕ} {d : ℕ} (b : ℕ) → a ≡ c → a ≤ 0 → d ≡ b → d ≡ or_else c b
-passed {c = zero} b e h q = q
-passed {a = a} {c = suc c} b e h q = omega arith
+-- `(a..21).any(f)`, where f computes a test
+pub any_from : {F : Type 0} {g : Mut F (ℕ × Unit {0}) Bool} (test : ℕ → Bool) (a : ℕ) {u : Range ℕ} {f : F} {r : Bool} →
+    ChecksAny nat_range_steps g (record { start = a; end = 21 }) f r u →
+    ((x : ℕ) (b : Bool) (q : F) → Called g f (x, tt) b q → (q ≡ f) × (b ≡ test x)) → r ≡ some_from test a
+any_from test a {u} {f} {r} ran computes = any_from_yields_List test u f r ran (YieldsList-from_range a 21 _ refl refl) computes ∙ any_some test (21 - a) a
 
 -- the first fault: from number i on, what is left gives what the whole gives
-module _ (f : ℕ → ℕ) (n i : ℕ) {v : ℕ} (r : v ≡ first f (n - i) i) where
-  tried : {a : ℕ} → i < n → a ≡ f i → v ≡ or_else a (first f (n - (i + 1)) (i + 1))
+module _ (f : ℕ → Result (Unit {0}) Fault) (n i : ℕ) {v : Result (Unit {0}) Fault} (r : v ≡ first f (n - i) i) where
+  tried : i < n → v ≡ first_of (f i) (first f (n - (i + 1)) (i + 1))
   unfolding first
-  tried h e =
-      r ∙ ap (λ (m : ℕ). first f m i) (let g : n - i ≡ suc (n - (i + 1)) = omega arith in g)
-      ∙ ap (λ (a : ℕ). or_else a (first f (n - (i + 1)) (i + 1))) (sym e)
+  tried h = r ∙ ap (λ (m : ℕ). first f m i) (let g : n - i ≡ suc (n - (i + 1)) = omega arith in g)
 
-  pub fault_found : {a : ℕ} → i < n → a ≡ f i → 0 < a → v ≡ a
-  fault_found {a} h e p = tried h e ∙ sym (taken (first f (n - (i + 1)) (i + 1)) (let e : a ≡ a = refl in e) p)
+  pub fault_found : {e : Fault} → i < n → f i ≡ Err e → v ≡ Err e
+  fault_found h e = tried h ∙ rw e
 
-  pub no_fault_yet : {a : ℕ} → i < n → a ≡ f i → a ≤ 0 → v ≡ first f (n - (i + 1)) (i + 1)
-  no_fault_yet {a} h e p = tried h e ∙ sym (passed (first f (n - (i + 1)) (i + 1)) (let e : a ≡ a = refl in e) p refl)
+  pub no_fault_yet : {u : Unit {0}} → i < n → f i ≡ Ok u → v ≡ first f (n - (i + 1)) (i + 1)
+  no_fault_yet h e = tried h ∙ rw e
 
-  pub no_fault : n ≤ i → v ≡ 0
+  pub no_fault : i ≡ n → v ≡ Ok tt
   unfolding first
   no_fault h = r ∙ ap (λ (m : ℕ). first f m i) (let g : n - i ≡ 0 = omega arith in g)
-
--- a test of two parts that a call has made
-pub first_holds : {a : Bool} (b : Bool) → a ≡ true → not b ≡ not (a && b)
-first_holds b e = ap (λ (a : Bool). not (a && b)) (sym e)
-
-pub first_fails : {a : Bool} (b : Bool) → a ≡ false → true ≡ not (a && b)
-first_fails b e = ap (λ (a : Bool). not (a && b)) (sym e)
-
--- a fault by its number, where a test holds
-pub numbered_fault : {b t : Bool} (n : ℕ) → b ≡ t → b ≡ true → n ≡ cond t n 0
-numbered_fault n e q = ap (λ (b : Bool). cond b n 0) (sym q ∙ e)
-
-pub no_numbered_fault : {b t : Bool} (n : ℕ) → b ≡ t → b ≡ false → 0 ≡ cond t n 0
-no_numbered_fault n e q = ap (λ (b : Bool). cond b n 0) (sym q ∙ e)

@@ -1,9 +1,11 @@
--- Row 2: the first fault of the tables, 1 to 8, and 0 where there is none. Components are counted from 0 here.
-use Rattle.std.specs.Prelude.{Bool, false, not, ◌&&◌, ◌||◌, cond, List, ℕ, zero, suc, ◌+◌, ◌-◌, ◌*◌, ltb, eqb, get_or, Float}
+-- Row 2: the first fault of the tables. Components are counted from 0 here.
+use Rattle.std.specs.Prelude.{Bool, false, not, ◌&&◌, ◌||◌, cond, List, ℕ, zero, suc, ◌+◌, ◌-◌, ◌*◌, ltb, eqb, get_or, Float, Result, Ok, Err}
 use Rattle.std.specs.Float.{nan}
 use Rattle.std.specs.Float.Ieee.{lt}
 use Rattle.std.specs.Float.Ieee.Scale.{finite}
 use Rattle.numerics.specs.Double.{+0}
+use Rattle.gerg_refusals.specs.declared.Fault.{Fault}
+use Rattle.gerg_refusals.specs.declared.Fault.TheVariants.{Btij, Bvij, Gtij, Gvij, Fij, Critical, NotPositive, Departure}
 use Rattle.gerg_tables.specs.Tables.{tc, mmi_gerg, btij, bvij, m_numb}
 
 -- whether f holds at one of the n numbers from a on
@@ -29,19 +31,30 @@ nonfinite doubles q i j = not (finite (pair_number doubles q i j))
 unfoldable pub some_nonfinite : List Float → ℕ → Bool
 some_nonfinite doubles q = some_from (λ i. some_from (nonfinite doubles q i) i) 0
 
+-- the fault where the test holds
+abbrev pub fault_if : Bool → Fault → Result (Unit {0}) Fault
+fault_if test fault = cond test (Err fault) (Ok tt)
+
 -- the first of two faults
-abbrev pub or_else : ℕ → ℕ → ℕ
-or_else zero b = b
-or_else (suc a) b = suc a
+abbrev pub first_of : Result (Unit {0}) Fault → Result (Unit {0}) Fault → Result (Unit {0}) Fault
+first_of (Ok u) b = b
+first_of (Err fault) b = Err fault
 
 -- the first of the faults f i, f (i + 1), .., n of them
-unfoldable pub first : (ℕ → ℕ) → ℕ → ℕ → ℕ
-first f zero i = 0
-first f (suc n) i = or_else (f i) (first f n (i + 1))
+unfoldable pub first : (ℕ → Result (Unit {0}) Fault) → ℕ → ℕ → Result (Unit {0}) Fault
+first f zero i = Ok tt
+first f (suc n) i = first_of (f i) (first f n (i + 1))
 
 -- "nonfinite bt, bv, gt, gv, f (1 to 5)"
-abbrev pub number_fault : List Float → ℕ → ℕ
-number_fault doubles q = cond (some_nonfinite doubles q) (q + 1) 0
+abbrev pub of_number : ℕ → Fault
+of_number zero = Btij
+of_number (suc zero) = Bvij
+of_number (suc (suc zero)) = Gtij
+of_number (suc (suc (suc zero))) = Gvij
+of_number (suc (suc (suc (suc q)))) = Fij
+
+abbrev pub number_fault : List Float → ℕ → Result (Unit {0}) Fault
+number_fault doubles q = fault_if (some_nonfinite doubles q) (of_number q)
 
 -- "Tc nonfinite or mass not finite and positive (6)"
 abbrev pub bad_critical : List Float → ℕ → Bool
@@ -51,8 +64,8 @@ bad_critical doubles i = not (finite (tc doubles i) && finite (mmi_gerg doubles 
 abbrev pub not_positive : List Float → ℕ → ℕ → Bool
 not_positive doubles i j = not (positive (btij doubles i j) && positive (bvij doubles i j))
 
-unfoldable pub component_fault : List Float → ℕ → ℕ
-component_fault doubles i = cond (bad_critical doubles i) 6 (cond (some_from (not_positive doubles i) i) 7 0)
+unfoldable pub component_fault : List Float → ℕ → Result (Unit {0}) Fault
+component_fault doubles i = first_of (fault_if (bad_critical doubles i) Critical) (fault_if (some_from (not_positive doubles i) i) NotPositive)
 
 -- "a mNumb, i < j, 0 or above the functions (8)"; from 128 on the byte is a negative number
 abbrev pub bad_number : List ℕ → ℕ → ℕ → ℕ → Bool
@@ -62,6 +75,6 @@ unfoldable pub some_bad_number : List ℕ → ℕ → Bool
 some_bad_number integers count = some_from (λ i. some_from (bad_number integers count i) (i + 1)) 0
 
 -- "then by component", "last"
-unfoldable pub fault_of : List Float → List ℕ → ℕ → ℕ
+unfoldable pub fault_of : List Float → List ℕ → ℕ → Result (Unit {0}) Fault
 fault_of doubles integers count =
-    or_else (first (number_fault doubles) 5 0) (or_else (first (component_fault doubles) 21 0) (cond (some_bad_number integers count) 8 0))
+    first_of (first (number_fault doubles) 5 0) (first_of (first (component_fault doubles) 21 0) (fault_if (some_bad_number integers count) Departure))

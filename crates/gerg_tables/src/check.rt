@@ -1,10 +1,11 @@
 // Row 2: the check of the tables. Components are counted from 0.
-ghost use Rattle.std.specs.Prelude.{◌≡◌, true, ℕ, ◌+◌, ◌-◌, ◌*◌, ◌≤◌, ◌<◌, get_or};
+ghost use Rattle.std.specs.Prelude.{◌≡◌, true, ℕ, ◌+◌, ◌-◌, ◌*◌, ◌≤◌, ◌<◌, get_or, Ok};
 ghost use Rattle.std.specs.Float.{nan};
 ghost use Rattle.gerg_tables.specs.Check as Check;
 ghost use Rattle.gerg_tables.specs.Check.{some_from};
 
 use crate::numbers::is_finite;
+use gerg_refusals::Fault;
 
 fn positive(x: f64) -> bool
     ensures { result ≡ Check.positive x }
@@ -20,50 +21,44 @@ fn nonfinite(doubles: &[f64; 4086], q: usize, i: usize, j: usize) -> bool
     !is_finite(doubles[1281 + 105 * i + 5 * j + q])
 }
 
+// A row has a function of its own, also below: of an `any` within an `any` the proof did not close.
 fn some_nonfinite_row(doubles: &[f64; 4086], q: usize, i: usize) -> bool
     requires { (q < 5) × (i < 21) }
     ensures { result ≡ some_from (Check.nonfinite doubles.now q i) i }
 {
-    let mut j = i;
-    while j < 21 {
-        if nonfinite(doubles, q, i, j) {
-            return true;
-        }
-        j += 1;
-    }
-    false
+    (i..21).any(|j| nonfinite(doubles, q, i, j))
 }
 
 fn some_nonfinite(doubles: &[f64; 4086], q: usize) -> bool
     requires { q < 5 }
     ensures { result ≡ Check.some_nonfinite doubles.now q }
 {
-    let mut i: usize = 0;
-    while i < 21 {
-        if some_nonfinite_row(doubles, q, i) {
-            return true;
-        }
-        i += 1;
-    }
-    false
+    (0..21).any(|i| some_nonfinite_row(doubles, q, i))
 }
 
-// 1 to 5 for the first q at which a number is not finite, 0 where all are finite, as they are known to be where `finite` says so.
-fn first_nonfinite(doubles: &[f64; 4086], finite: bool) -> u8
-    requires { finite ≡ true → Check.first (Check.number_fault doubles.now) 5 0 ≡ 0 }
+fn fault_if(test: bool, fault: Fault) -> Result<(), Fault>
+    ensures { result ≡ Check.fault_if test fault }
+{
+    if test {
+        return Err(fault);
+    }
+    Ok(())
+}
+
+// The fault of the first number of the pairs that is not finite; none is where `finite` says so.
+#[tactic(auto, unfolding(crate::specs::Check::first))]
+fn first_nonfinite(doubles: &[f64; 4086], finite: bool) -> Result<(), Fault>
+    requires { finite ≡ true → Check.first (Check.number_fault doubles.now) 5 0 ≡ Ok tt }
     ensures { result ≡ Check.first (Check.number_fault doubles.now) 5 0 }
 {
     if finite {
-        return 0;
+        return Ok(());
     }
-    let mut q: usize = 0;
-    while q < 5 {
-        if some_nonfinite(doubles, q) {
-            return (q + 1) as u8;
-        }
-        q += 1;
-    }
-    0
+    fault_if(some_nonfinite(doubles, 0), Fault::Btij)?;
+    fault_if(some_nonfinite(doubles, 1), Fault::Bvij)?;
+    fault_if(some_nonfinite(doubles, 2), Fault::Gtij)?;
+    fault_if(some_nonfinite(doubles, 3), Fault::Gvij)?;
+    fault_if(some_nonfinite(doubles, 4), Fault::Fij)
 }
 
 // Whether Tc of component i is not finite, or its mass not finite and positive.
@@ -72,12 +67,7 @@ fn bad_critical(doubles: &[f64; 4086], i: usize) -> bool
     ensures { result ≡ Check.bad_critical doubles.now i }
 {
     let mass = doubles[2 * i + 1];
-    if is_finite(doubles[2 * i]) {
-        if is_finite(mass) {
-            return !positive(mass);
-        }
-    }
-    true
+    !(is_finite(doubles[2 * i]) && is_finite(mass) && positive(mass))
 }
 
 // Whether btij or bvij is not positive.
@@ -85,50 +75,33 @@ fn not_positive(doubles: &[f64; 4086], i: usize, j: usize) -> bool
     requires { (i < 21) × (j < 21) }
     ensures { result ≡ Check.not_positive doubles.now i j }
 {
-    if positive(doubles[1281 + 105 * i + 5 * j]) {
-        return !positive(doubles[1282 + 105 * i + 5 * j]);
-    }
-    true
+    !(positive(doubles[1281 + 105 * i + 5 * j]) && positive(doubles[1282 + 105 * i + 5 * j]))
 }
 
 fn some_not_positive(doubles: &[f64; 4086], i: usize) -> bool
     requires { i < 21 }
     ensures { result ≡ some_from (Check.not_positive doubles.now i) i }
 {
-    let mut j = i;
-    while j < 21 {
-        if not_positive(doubles, i, j) {
-            return true;
-        }
-        j += 1;
-    }
-    false
+    (i..21).any(|j| not_positive(doubles, i, j))
 }
 
-// The fault of component i: 6, then 7, and 0 where there is none.
-fn component_fault(doubles: &[f64; 4086], i: usize) -> u8
+#[tactic(auto, unfolding(crate::specs::Check::component_fault))]
+fn component_fault(doubles: &[f64; 4086], i: usize) -> Result<(), Fault>
     requires { i < 21 }
     ensures { result ≡ Check.component_fault doubles.now i }
 {
-    if bad_critical(doubles, i) {
-        return 6;
-    }
-    if some_not_positive(doubles, i) { 7 } else { 0 }
+    fault_if(bad_critical(doubles, i), Fault::Critical)?;
+    fault_if(some_not_positive(doubles, i), Fault::NotPositive)
 }
 
 // The first fault by component.
-fn first_component_fault(doubles: &[f64; 4086]) -> u8
+fn first_component_fault(doubles: &[f64; 4086]) -> Result<(), Fault>
     ensures { result ≡ Check.first (Check.component_fault doubles.now) 21 0 }
 {
-    let mut i: usize = 0;
-    while i < 21 {
-        let f = component_fault(doubles, i);
-        if 0 < f {
-            return f;
-        }
-        i += 1;
+    for i in 0..21 {
+        component_fault(doubles, i)?;
     }
-    0
+    Ok(())
 }
 
 // Whether mNumb is not negative, and 0 or above the number of departure functions.
@@ -137,63 +110,35 @@ fn bad_number(integers: &[u8; 1631], count: usize, i: usize, j: usize) -> bool
     ensures { result ≡ Check.bad_number integers.now count i j }
 {
     let m = integers[1050 + 21 * i + j];
-    if m < 128 {
-        if m == 0 {
-            return true;
-        }
-        return count < (m as usize);
-    }
-    false
+    m < 128 && (m == 0 || count < usize::from(m))
 }
 
 fn some_bad_number_row(integers: &[u8; 1631], count: usize, i: usize) -> bool
     requires { i < 21 }
     ensures { result ≡ some_from (Check.bad_number integers.now count i) (i + 1) }
 {
-    let mut j = i + 1;
-    while j < 21 {
-        if bad_number(integers, count, i, j) {
-            return true;
-        }
-        j += 1;
-    }
-    false
+    (i + 1..21).any(|j| bad_number(integers, count, i, j))
 }
 
 fn some_bad_number(integers: &[u8; 1631], count: usize) -> bool
     ensures { result ≡ Check.some_bad_number integers.now count }
 {
-    let mut i: usize = 0;
-    while i < 21 {
-        if some_bad_number_row(integers, count, i) {
-            return true;
-        }
-        i += 1;
-    }
-    false
+    (0..21).any(|i| some_bad_number_row(integers, count, i))
 }
 
-// The first fault of the tables of a file with `count` departure functions, 1 to 8, and 0 where there is none. `finite` tells that the numbers of the pairs are.
-pub fn fault<'a>(
-    doubles: &'a [f64; 4086],
-    integers: &'a [u8; 1631],
+// The first fault of the tables of a file with `count` departure functions. `finite` tells that the numbers of the pairs are: whoever stored
+// them has looked at each already.
+#[tactic(auto, unfolding(crate::specs::Check::fault_of))]
+pub fn fault(
+    doubles: &[f64; 4086],
+    integers: &[u8; 1631],
     count: usize,
     finite: bool,
-) -> u8
-    requires { finite ≡ true → Check.first (Check.number_fault doubles.now) 5 0 ≡ 0 }
+) -> Result<(), Fault>
+    requires { finite ≡ true → Check.first (Check.number_fault doubles.now) 5 0 ≡ Ok tt }
     ensures { result ≡ Check.fault_of doubles.now integers.now count }
 {
-    let n = first_nonfinite(doubles, finite);
-    if 0 < n {
-        return n;
-    }
-    let c = first_component_fault(doubles);
-    if 0 < c {
-        return c;
-    }
-    if some_bad_number(integers, count) {
-        8
-    } else {
-        0
-    }
+    first_nonfinite(doubles, finite)?;
+    first_component_fault(doubles)?;
+    fault_if(some_bad_number(integers, count), Fault::Departure)
 }

@@ -2,6 +2,7 @@
 #![tactic(auto)]
 
 pub mod check;
+pub mod coefficients;
 pub mod named;
 pub mod numbers;
 

@@ -1,4 +1,5 @@
 // A reader for each number of the tables, under its name in the NIST AGA8 code. The arrays are lent and never copied.
+// Each is one index expression with the bounds of its own indices: one reader for all would take the place for the name.
 ghost use Rattle.std.specs.Prelude.{◌≡◌, ◌<◌};
 ghost use Rattle.gerg_tables.specs.Tables as named;
 

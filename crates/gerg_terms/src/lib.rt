@@ -3,12 +3,6 @@
 
 pub mod departure;
 pub mod ideal;
+pub mod point;
 pub mod pure;
 pub mod sums;
-
-// A component that is present: its place, from 0, and its fraction.
-#[derive(Clone, Copy)]
-pub struct Present {
-    pub i: usize,
-    pub x: f64,
-}

@@ -2,91 +2,67 @@
 
 ghost use Rattle.std.specs.Prelude.{◌≡◌, ◌+◌, ◌*◌, ◌<◌, get_or};
 ghost use Rattle.std.specs.Float.{nan};
-ghost use Rattle.gerg_tables.specs.Tables as named;
-ghost use Rattle.gerg_tables.specs.Tables.{tables, Shaped};
 ghost use Rattle.gerg_isotherm.specs.Isotherm as cells;
-ghost use Rattle.gerg_isotherm.specs.Rows.{Row};
 ghost use Rattle.gerg_terms.specs.Terms as is;
-ghost use Rattle.gerg_derivatives.specs.Powers.{Worked};
+ghost use Rattle.gerg_terms.specs.Points as at;
 
-use crate::Present;
+use crate::point::Point;
 use elementary::power;
 use gerg_derivatives::derivatives::GergDerivatives;
+use gerg_derivatives::parts;
 use gerg_derivatives::parts::Damped;
-use gerg_derivatives::{Point, parts, powers};
 use gerg_tables::named;
-use gerg_tables::numbers::wide;
 
 // The exponent of delta in the damping of term k of component i.
+#[tactic(auto, unfolding(crate::specs::Terms::damping_exponent))]
 fn damping_exponent(integers: &[u8; 1631], i: usize, k: usize) -> u8
     requires { (i < 21) × (k < 24) }
     ensures { result ≡ is.damping_exponent integers.now i k }
 {
-    if k < wide(named::kpol(integers, i)) {
+    if k < usize::from(named::kpol(integers, i)) {
         return 0;
     }
     named::coik(integers, i, k)
 }
 
-// Term k: its power of tau is the isotherm's cell, its powers of delta come from `small`.
-fn pure_term<'a>(
-    a: GergDerivatives,
-    doubles: &'a [f64; 4086],
-    integers: &'a [u8; 1631],
-    isotherm: &'a [f64; 939],
-    small: &'a [f64; 24],
-    point: Point,
-    member: Present,
-    k: usize,
-) -> GergDerivatives
-    requires { (member.i < 21) × (k < 24) × Worked point small.now × (get_or isotherm.now (24 * member.i + k) nan ≡ cells.pure_cell doubles.now point.tau member.i k) }
-    ensures { result ≡ is.pure_term (tables doubles.now integers.now) member.x point.delta point.tau member.i k a }
+// Term k of component i, whose fraction is x: its power of tau is the isotherm's cell.
+#[tactic(auto, unfolding(crate::specs::Terms::pure_term))]
+fn pure_term(a: GergDerivatives, point: Point, x: f64, i: usize, k: usize) -> GergDerivatives
+    requires { (i < 21) × (k < 24) × (get_or point.isotherm.cells.now (24 * i + k) nan ≡ cells.pure_cell point.isotherm.coefficients.doubles.now (at.tau_at point) i k) }
+    ensures { result ≡ is.pure_term (at.tables_of point.entry) x point.entry.reduced.delta (at.tau_at point.entry) i k a }
 {
-    let i = member.i;
-    let b = named::doik(integers, i, k);
-    let q = damping_exponent(integers, i, k);
-    let damping = powers::damping(small, point.delta, q);
-    let exponential = powers::exponential(small, point.delta, damping, q);
-    let delta_power = powers::power(small, point.delta, point.ln_delta, b);
-    let n = named::noik(doubles, i, k);
-    let tau_power = isotherm[24 * i + k];
-    let t = named::toik(doubles, i, k);
-    let d = power::signed_double(b);
-    let q = power::signed_double(q);
-    let numbers = Damped {
-        x: member.x,
-        n,
-        delta_power,
-        tau_power,
-        exponential,
-        t,
-        d,
-        q,
-        damping,
-    };
-    parts::damped_term(a, numbers)
+    let tables = point.isotherm.coefficients;
+    let b = named::doik(tables.integers, i, k);
+    let q = damping_exponent(tables.integers, i, k);
+    // Both tests on q stand together, so that one branch does for them.
+    let damping = point.reduced.damping(q);
+    let exponential = point.reduced.exponential(damping, q);
+    let delta_power = point.reduced.power(b);
+    parts::damped_term(
+        a,
+        Damped {
+            x,
+            n: named::noik(tables.doubles, i, k),
+            delta_power,
+            tau_power: point.isotherm.cells[24 * i + k],
+            exponential,
+            t: named::toik(tables.doubles, i, k),
+            d: power::signed_double(b),
+            q: power::signed_double(q),
+            damping,
+        },
+    )
 }
 
-pub fn pure_terms<'a>(
-    a: GergDerivatives,
-    doubles: &'a [f64; 4086],
-    integers: &'a [u8; 1631],
-    isotherm: &'a [f64; 939],
-    small: &'a [f64; 24],
-    point: Point,
-    member: Present,
-) -> GergDerivatives
-    requires { (member.i < 21) × Shaped (tables doubles.now integers.now) × Worked point small.now
-        × Row (cells.pure_cell doubles.now point.tau member.i) (24 * member.i) (named.kpol integers.now member.i + named.kexp integers.now member.i) isotherm.now }
-    ensures { result ≡ is.pure_terms (tables doubles.now integers.now) member.x point.delta point.tau member.i a }
+pub fn pure_terms(a: GergDerivatives, point: Point, i: usize) -> GergDerivatives
+    requires { at.Present point i }
+    ensures { result ≡ is.pure_terms (at.tables_of point.entry) (get_or (at.fractions_of point.entry) i nan) point.entry.reduced.delta (at.tau_at point.entry) i a }
 {
-    let i = member.i;
-    let n = wide(named::kpol(integers, i)) + wide(named::kexp(integers, i));
+    let x = point.isotherm.model.fractions[i];
+    let n = point.isotherm.coefficients.pure_terms(i);
     let mut sum = a;
-    let mut k = 0usize;
-    while k < n {
-        sum = pure_term(sum, doubles, integers, isotherm, small, point, member, k);
-        k += 1;
+    for k in 0..n {
+        sum = pure_term(sum, point, x, i, k);
     }
     sum
 }

@@ -10,7 +10,7 @@ ghost use Rattle.packed_decimal.specs.Records.{wrong_offset, bad_total};
 fn two_digits(byte: u8) -> u32
     ensures { (result ≡ is.two_digits byte) × (result ≤ 165) }
 {
-    (byte / 16) as u32 * 10 + (byte % 16) as u32
+    u32::from(byte / 16) * 10 + u32::from(byte % 16)
 }
 
 fn wrong_digits(byte: u8) -> bool
@@ -19,32 +19,27 @@ fn wrong_digits(byte: u8) -> bool
     (9 < byte / 16) | (9 < byte % 16)
 }
 
-// Whether the record at `at` is cut, of another kind, or has a digit above 9.
-fn wrong_record(bytes: &[u8], at: usize) -> bool
-    requires { at ≤ length bytes.now }
-    ensures { result ≡ is.wrong_record bytes.now at }
+// Whether a record is cut, of another kind, or has a digit above 9.
+fn wrong_record(bytes: &[u8]) -> bool
+    ensures { result ≡ is.wrong_record bytes.now 0 }
 {
-    if bytes.len() - at < 6 {
-        return true;
+    match bytes {
+        [kind, _, a, b, c, d, ..] => {
+            (*kind != 0x10)
+                | (wrong_digits(*a) | (wrong_digits(*b) | (wrong_digits(*c) | wrong_digits(*d))))
+        }
+        _ => true,
     }
-    (bytes[at] != 0x10)
-        | (wrong_digits(bytes[at + 2])
-            | (wrong_digits(bytes[at + 3])
-                | (wrong_digits(bytes[at + 4]) | wrong_digits(bytes[at + 5]))))
 }
 
 // The offset of the first wrong record, or past the bytes where there is none.
 pub fn wrong_offset(bytes: &[u8]) -> usize
     ensures { result ≡ wrong_offset bytes.now }
 {
-    let mut k = 0;
-    while 6 * k < bytes.len() {
-        if wrong_record(bytes, 6 * k) {
-            return 6 * k;
-        }
-        k += 1;
+    match bytes.chunks(6).position(wrong_record) {
+        Some(k) => 6 * k,
+        None => bytes.len(),
     }
-    6 * k
 }
 
 // The parts of the record at `at`.
@@ -62,7 +57,7 @@ pub fn parts_at(bytes: &[u8], at: usize) -> u32
 pub fn fraction(parts: u32) -> f64
     ensures { result ≡ is.fraction_of parts }
 {
-    parts as f64 / 1_000_000.0
+    f64::from(parts) / 1_000_000.0
 }
 
 // The byte of the last two digits.
@@ -77,18 +72,14 @@ pub fn put_record(component: u8, parts: u32, at: usize, out: &mut [u8])
     requires { at + 6 ≤ length out.old }
     ensures { out.new ≡ sets out.old at (is.record_of component parts) }
 {
-    out[at] = 0x10;
-    out[at + 1] = component;
-    out[at + 2] = packed(parts / 1_000_000);
-    out[at + 3] = packed(parts / 10_000);
-    out[at + 4] = packed(parts / 100);
-    out[at + 5] = packed(parts);
-}
-
-fn wide(parts: u32) -> u64
-    ensures { (result ≡ parts) × (result < 0x1_0000_0000) }
-{
-    parts as u64
+    out[at..at + 6].copy_from_slice(&[
+        0x10,
+        component,
+        packed(parts / 1_000_000),
+        packed(parts / 10_000),
+        packed(parts / 100),
+        packed(parts),
+    ]);
 }
 
 // Whether parts total another number than 1,000,000. A total past that is not added to any further, so it stays below 2^33 however many there are.
@@ -96,13 +87,11 @@ pub fn bad_total(parts: &[u32]) -> bool
     ensures { result ≡ bad_total parts.now }
 {
     let mut total = 0;
-    let mut k = 0;
-    while k < parts.len() {
-        total = total + wide(parts[k]);
+    for part in parts {
+        total += u64::from(*part);
         if 1_000_000 < total {
             return true;
         }
-        k += 1;
     }
     total != 1_000_000
 }

@@ -15,13 +15,15 @@ use Rattle.numerics.specs.Fill.{tabulate_same}
 use Rattle.gerg_file.specs.Bytes.{word, double_at}
 use Rattle.decimal_lines.specs.Line.{decimal, line_from}
 use Rattle.gerg_coefficients.specs.Load.{doubles_at}
-use Rattle.gerg_coefficients.specs.declared.Answer.{Answer}
-use Rattle.gerg_coefficients.specs.Answer as File
+use Rattle.std.specs.Prelude.{Result, Err}
+use Rattle.gerg_refusals.specs.Answer.{passed, and_then}
+use Rattle.gerg_refusals.specs.declared.Refusal.{Refusal}
+use Rattle.gerg_refusals.specs.declared.Refusal.TheVariants as refusal
 use Rattle.gerg_coefficients.specs.Answer.{answer_of, tables_of}
 use Rattle.gerg_coefficients.proofs.Cut.{cut_answer, cut_tables}
-use Rattle.gerg_coefficients.proofs.Examples.{empty_file, empty_file_number}
-use Rattle.gerg_prepared.proofs.Refused.{after_refused, file_rows}
-use Rattle.gerg_prepared.specs.declared.Refusal.TheVariants.{Refused}
+use Rattle.gerg_coefficients.proofs.Examples.{empty_file}
+use Rattle.gerg_prepared.proofs.Laws.{file_rows}
+use Rattle.gerg_prepared.specs.declared.Mixed.{Mixed}
 use Rattle.gerg_states.specs.States.{number_at, run_refusal}
 use Rattle.gerg_states.proofs.Laws.Numbers.{same_number, same_refusal}
 use Rattle.gerg_states.proofs.Promises.{zero_seed_first, then_rows}
@@ -29,15 +31,14 @@ use Rattle.states.specs.Text.{components_of, seed_of, states_of, list_of, fracti
 use Rattle.states.proofs.Input.{cut_head, whole_head}
 
 -- ---- "input cut before the file begins": row 1 at 0, whatever the seed's bytes are
-empty_refused : run_refusal [] [] [] 1 ≡ Refused 1 0
+empty_refused : run_refusal [] [] [] 1 ≡ Err (refusal.File 0)
 empty_refused =
-    then_rows [] [] [] 1 (λ e. omega arith) ∙ file_rows [] [] [] (λ e. omega (arith, empty_file_number))
-    ∙ ap (λ (a : Answer). Refused (File.number_of a) (File.value_of a)) empty_file
+    then_rows [] [] [] 1 (λ e. omega arith) ∙ ap (λ (x : Result Mixed Refusal). and_then x (λ m. passed)) (file_rows [] [] [] (refusal.File 0) empty_file)
 
 -- "1 0"
 pub empty_report : report_of 1 0 [] [] [] ≡ 49 ∷ 32 ∷ 48 ∷ 10 ∷ []
 unfolding report_of line_from decimal
-empty_report = sym (after_refused line_from (run_refusal [] [] [] 1) _ 1 0 empty_refused)
+empty_report = rw empty_refused
 
 pub cut_input : (s : List ℕ) → length s < file_start s → text_of s ≡ 49 ∷ 32 ∷ 48 ∷ 10 ∷ []
 cut_input s h = cut_head s h ∙ empty_report
@@ -59,8 +60,7 @@ cut_anywhere s n h = cut_input (take n s) (cut_by s n (ltb 12 n) refl h)
 -- ---- "27, a zero seed, tested first": `27 0`, whatever follows
 zero_report : (states : ℕ) (list : List ℕ) (fractions : List Float) (file : List ℕ) → report_of 0 states list fractions file ≡ 50 ∷ 55 ∷ 32 ∷ 48 ∷ 10 ∷ []
 unfolding report_of line_from decimal
-zero_report states list fractions file =
-    sym (after_refused line_from (run_refusal file list fractions 0) _ 27 0 (zero_seed_first file list fractions))
+zero_report states list fractions file = rw (zero_seed_first file list fractions)
 
 pub zero_seed : (s : List ℕ) → file_start s ≤ length s → seed_of s ≡ 0 → text_of s ≡ 50 ∷ 55 ∷ 32 ∷ 48 ∷ 10 ∷ []
 zero_seed s h e =

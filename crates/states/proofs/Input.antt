@@ -1,14 +1,13 @@
 -- What the parts of an input are, and which report it has. Assumes nothing.
-use mathlib.Core.Path.{◌≡◌, ap, ◌∙◌}
+use mathlib.Core.Path.{◌≡◌}
 use mathlib.Core.List.{List, []}
 use Prim.Native.Nat.{ℕ, ◌+◌, ◌-◌, ◌*◌, ◌≤◌, ◌<◌}
 use native.Mathlib.Omega.{arith}
 use borrow.Author.Tests.{le-leb, lt-leb}
 use lib.Ieee.{Float}
 use lib.ListN.{length, take, drop, length-drop}
-use lib.Seq.{sets, sets-eq, take_at, take_all}
+use lib.Seq.{take_all}
 use Rattle.gerg_coefficients.specs.Load.{doubles_at}
-use Rattle.gerg_coefficients.proofs.Put.{length_doubles_at}
 use Rattle.states.specs.Text.{components_of, seed_of, states_of, list_of, fractions_of, file_start, file_of, report_of, text_of}
 
 pub cut_head : (s : List ℕ) → length s < file_start s → text_of s ≡ report_of 1 0 [] [] []
@@ -19,20 +18,15 @@ pub whole_head : (s : List ℕ) → file_start s ≤ length s → text_of s ≡ 
 unfolding text_of
 whole_head s h = rw (le-leb (file_start s) (length s) h)
 
--- numbers stored from the start on
-front_stored : {A : Type 0} (l vs : List A) (n : ℕ) → length vs ≡ n → n ≤ length l → take n (sets l 0 vs) ≡ vs
-front_stored l vs n e h = ap (take n) (sets-eq vs l 0 (omega arith)) ∙ take_at vs (drop (0 + length vs) l) n e
-
--- the report of the parts that were read: the components between two places, the fractions from an array, the file up to the input's end
-pub whole_report : (s : List ℕ) (components seed states : ℕ) (lent stored : List Float) → components ≡ components_of s → seed ≡ seed_of s → states ≡ states_of s
-    → stored ≡ sets lent 0 (doubles_at s (13 + components) components) → components ≤ length lent → 13 + 9 * components ≤ length s
-    → report_of seed states (take (13 + components - 13) (drop 13 s)) (take components stored)
+-- the report on the parts that were read: the components between two places, the file up to the input's end
+pub whole_report : (s : List ℕ) (components seed states : ℕ) (fractions : List Float) → components ≡ components_of s → seed ≡ seed_of s → states ≡ states_of s
+    → fractions ≡ doubles_at s (13 + components) components → 13 + 9 * components ≤ length s
+    → report_of seed states (take (13 + components - 13) (drop 13 s)) fractions
     (take (length s - (13 + 9 * components)) (drop (13 + 9 * components) s))
     ≡ text_of s
-whole_report s components seed states lent stored c a b e l h =
+whole_report s components seed states fractions c a b e h =
     let at = 13 + 9 * components in
     let i : 13 + components - 13 ≡ components = omega arith in
-    let f = ap (take components) e ∙ front_stored lent (doubles_at s (13 + components) components) components (length_doubles_at s (13 + components) components) l in
     let p : take (length s - at) (drop at s) ≡ drop at s = take_all (length s - at) (drop at s) (omega (arith, length-drop at s)) in
     let w = whole_head s (omega arith) in
     cc

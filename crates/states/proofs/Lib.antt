@@ -1,4 +1,4 @@
 -- Laws that the proofs of this crate share, and what holds of an input that is cut.
-pub mod Report
+pub mod Lines
 pub mod Input
 pub mod Cut

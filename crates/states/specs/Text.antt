@@ -1,11 +1,14 @@
 -- Request 01: what the program's standard input says, and what it prints.
-use Rattle.std.specs.Prelude.{List, [], ◌++◌, ℕ, ◌+◌, ◌*◌, leb, Float, length, take, drop}
+use Rattle.std.specs.Prelude.{List, [], ◌++◌, ℕ, ◌+◌, ◌*◌, leb, Float, length, take, drop, Result, Ok, Err}
 use Rattle.numerics.specs.Double.{pick}
 use Rattle.gerg_file.specs.Bytes.{byte, word}
-use Rattle.decimal_lines.specs.Line.{line_from, count_lines}
+use Rattle.decimal_lines.specs.Line.{line_from, count_lines, line_text, count_lines_text}
 use Rattle.gerg_coefficients.specs.Load.{doubles_at}
-use Rattle.gerg_prepared.specs.Mixed.{after_rows}
+use Rattle.gerg_refusals.specs.Refusal.{number_of, value_of}
+use Rattle.gerg_refusals.specs.declared.Refusal.{Refusal}
 use Rattle.gerg_states.specs.States.{number_at, count_of, run_refusal}
+use Rattle.states.specs.declared.report.Report.{Report}
+use Rattle.states.specs.declared.report.Report.TheVariants.{Counted, Refused}
 
 -- "the seed (8 bytes)
 abbrev pub seed_of : List ℕ → ℕ
@@ -39,9 +42,14 @@ unfoldable pub lines_of : ℕ → ℕ → (ℕ → ℕ) → List ℕ
 lines_of seed states counts = line_from seed states ++ count_lines counts 37
 
 -- "A refused seed, file or mixture prints its number and value on one line and no more"
+abbrev pub told : Result (Unit {0}) Refusal → List ℕ → List ℕ
+told (Ok u) lines = lines
+told (Err r) lines = line_from (number_of r) (value_of r)
+
+-- the run of a seed from state 0 on
 unfoldable pub report_of : ℕ → ℕ → List ℕ → List Float → List ℕ → List ℕ
 report_of seed states list fractions file =
-    after_rows line_from (run_refusal file list fractions seed) (lines_of seed states (count_of (number_at file list fractions seed) 0 states))
+    told (run_refusal file list fractions seed) (lines_of seed states (count_of (number_at file list fractions seed) 0 states))
 
 -- "input cut before the file begins is taken as one with an empty file and a seed of 1"
 unfoldable pub text_of : List ℕ → List ℕ
@@ -49,3 +57,8 @@ text_of s =
     pick (leb (file_start s) (length s))
     (report_of (seed_of s) (states_of s) (list_of s) (fractions_of s) (file_of s))
     (report_of 1 0 [] [] [])
+
+-- the bytes that the code's report is printed as
+abbrev pub report_text : Report → List ℕ
+report_text (Counted run counts) = line_text run ++ count_lines_text counts
+report_text (Refused refusal) = line_text refusal

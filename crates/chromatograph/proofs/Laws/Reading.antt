@@ -11,11 +11,12 @@ use Rattle.numerics.specs.Tests.{or_false}
 use Rattle.numerics.specs.Fill.{filled, length_tabulate}
 use Rattle.packed_decimal.specs.Record.{component_at, parts_at, fraction_of}
 use Rattle.packed_decimal.specs.Records.{offset_of, records, wrong_offset, components_of, parts_of, bad_total}
-use Rattle.chromatograph.specs.Lists.{bad_place, bad_list, read_answer, unless_refused, read_of, components_read, parts_read, fractions_read}
+use Rattle.chromatograph.specs.Lists.{bad_place, bad_list, read_answer, read_of, components_read, parts_read, fractions_read}
 use Rattle.chromatograph.proofs.Laws.Filled.{take_filled}
 use Rattle.chromatograph.proofs.Laws.Known.{known}
-use Rattle.chromatograph.specs.declared.ListAnswer.{ListAnswer}
-use Rattle.chromatograph.specs.declared.ListAnswer.TheVariants.{Listed, Refused}
+use Rattle.std.specs.Prelude.{Result, Ok, Err}
+use Rattle.gerg_refusals.specs.declared.Refusal.{Refusal}
+use Rattle.gerg_refusals.specs.declared.Refusal.TheVariants as refusal
 
 pub components_length : (bytes : List ℕ) → length (components_of bytes) ≡ records bytes
 unfolding components_of
@@ -51,39 +52,39 @@ module _ (bytes list parts : List ℕ) (fractions : List Float) where
   n = records bytes
 
   -- an answer and the three lists that it leaves
-  abbrev pub Read : ListAnswer → List ℕ → List ℕ → List Float → Type 0
+  abbrev pub Read : Result ℕ Refusal → List ℕ → List ℕ → List Float → Type 0
   Read a l p f =
       (a ≡ read_of bytes list parts fractions) × ((l ≡ components_read bytes list parts fractions) × ((p ≡ parts_read bytes list parts fractions) × (f ≡ fractions_read bytes list parts fractions)))
 
-  refused : (number value : ℕ) → read_of bytes list parts fractions ≡ Refused number value → Read (Refused number value) list parts fractions
-  unfolding components_read parts_read fractions_read unless_refused
-  refused number value e = (sym e, (sym (rw e), (sym (rw e), sym (rw e))))
+  refused : (r : Refusal) → read_of bytes list parts fractions ≡ Err r → Read (Err r) list parts fractions
+  unfolding components_read parts_read fractions_read
+  refused r e = (sym e, (sym (rw e), (sym (rw e), sym (rw e))))
 
-  pub number_28 : (offset : ℕ) → offset ≡ wrong_offset bytes → ltb offset (length bytes) ≡ true → Read (Refused 28 offset) list parts fractions
+  pub number_28 : (offset : ℕ) → offset ≡ wrong_offset bytes → ltb offset (length bytes) ≡ true → Read (Err (refusal.Record offset)) list parts fractions
   unfolding read_answer
-  number_28 offset e t = refused 28 offset (rw (← e, t))
+  number_28 offset e t = refused (refusal.Record offset) (rw (← e, t))
 
   module _ (right : ltb (wrong_offset bytes) (length bytes) ≡ false) where
-    pub row_3 : (place : ℕ) → place ≡ bad_place (components_of bytes) → bad_list (components_of bytes) ≡ true → Read (Refused 3 place) list parts fractions
+    pub row_3 : (place : ℕ) → place ≡ bad_place (components_of bytes) → bad_list (components_of bytes) ≡ true → Read (Err (refusal.Components place)) list parts fractions
     unfolding read_answer
-    row_3 place e t = refused 3 place (rw (right, t, ← e))
+    row_3 place e t = refused (refusal.Components place) (rw (right, t, ← e))
 
     module _ (known : bad_list (components_of bytes) ≡ false) where
-      pub number_29 : bad_total (parts_of bytes) ≡ true → Read (Refused 29 0) list parts fractions
+      pub number_29 : bad_total (parts_of bytes) ≡ true → Read (Err refusal.Total) list parts fractions
       unfolding read_answer
-      number_29 t = refused 29 0 (rw (right, known, t))
+      number_29 t = refused refusal.Total (rw (right, known, t))
 
       module _ (total : bad_total (parts_of bytes) ≡ false) where
-        pub row_24 : (ltb (length list) n || (ltb (length parts) n || ltb (length fractions) n)) ≡ true → Read (Refused 24 n) list parts fractions
+        pub row_24 : (ltb (length list) n || (ltb (length parts) n || ltb (length fractions) n)) ≡ true → Read (Err (refusal.TooShort n)) list parts fractions
         unfolding read_answer
-        row_24 t = refused 24 n (rw (right, known, total, t))
+        row_24 t = refused (refusal.TooShort n) (rw (right, known, total, t))
 
-        answered : (ltb (length list) n || (ltb (length parts) n || ltb (length fractions) n)) ≡ false → read_of bytes list parts fractions ≡ Listed n
+        answered : (ltb (length list) n || (ltb (length parts) n || ltb (length fractions) n)) ≡ false → read_of bytes list parts fractions ≡ Ok n
         unfolding read_answer
         answered t = rw (right, known, total, t)
 
         pub accepted : (l p : List ℕ) (f : List Float) → (ltb (length list) n || (ltb (length parts) n || ltb (length fractions) n)) ≡ false →
             l ≡ filled (λ k. component_at bytes (offset_of k)) n list → p ≡ filled (λ k. parts_at bytes (offset_of k)) n parts → f ≡ filled (λ k. fraction_of (parts_at bytes (offset_of k))) n fractions →
-            Read (Listed n) l p f
-        unfolding components_read parts_read fractions_read unless_refused
+            Read (Ok n) l p f
+        unfolding components_read parts_read fractions_read
         accepted l p f t a b c = let e = answered t in (sym e, (a ∙ sym (rw e), (b ∙ sym (rw e), c ∙ sym (rw e))))

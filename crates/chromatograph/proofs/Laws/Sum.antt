@@ -23,7 +23,7 @@ use Rattle.numerics.specs.Sign.{of_nonneg}
 use Rattle.numerics.specs.Tests.{or_false}
 use Rattle.numerics.specs.Zero.{zero_is}
 use Rattle.gerg_model.specs.MixtureCheck.{first_place, bad_number, bad_fraction, sum_of, adds_up, check_of}
-use Rattle.gerg_model.specs.declared.mixture.MixtureCheck.TheVariants.{Sound}
+use Rattle.std.proofs.Common.{Ok}
 use Rattle.packed_decimal.specs.Record.{millionths, fraction_of}
 use Rattle.packed_decimal.specs.Records.{total_of}
 use Rattle.chromatograph.specs.Lists.{bad_place, bad_list}
@@ -129,7 +129,7 @@ good_fraction parts whole k h =
     rw (get_d_tabulate (λ k. fraction_of (get_or parts k 0)) (length parts) k nan h, g.0) g.1
 
 -- a list that row 3 passes, and parts that 29 passes: rows 3 and 4 pass their fractions
-pub mixture_sound : (list parts : List ℕ) → length parts ≡ length list → bad_list list ≡ false → total_of parts ≡ 1_000_000 → check_of list (tabulate (λ k. fraction_of (get_or parts k 0)) (length parts)) ≡ Sound
+pub mixture_sound : (list parts : List ℕ) → length parts ≡ length list → bad_list list ≡ false → total_of parts ≡ 1_000_000 → check_of list (tabulate (λ k. fraction_of (get_or parts k 0)) (length parts)) ≡ Ok tt
 unfolding check_of bad_list bad_place
 mixture_sound list parts paired known_list whole =
     let t = or_false (eqb (length list) 0) (ltb (first_place (bad_number list) (length list) 0) (length list)) known_list in

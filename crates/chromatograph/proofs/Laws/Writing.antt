@@ -12,9 +12,10 @@ use lib.Seq.{sets}
 use Rattle.numerics.specs.Fill.{sets_append}
 use Rattle.packed_decimal.specs.Record.{record_of}
 use Rattle.packed_decimal.specs.Records.{records_of, bad_total}
-use Rattle.chromatograph.specs.Lists.{bad_place, bad_list, write_answer, unless_refused, bytes_written}
-use Rattle.chromatograph.specs.declared.ListAnswer.{ListAnswer}
-use Rattle.chromatograph.specs.declared.ListAnswer.TheVariants.{Listed, Refused}
+use Rattle.chromatograph.specs.Lists.{bad_place, bad_list, write_answer, bytes_written}
+use Rattle.std.specs.Prelude.{Result, Ok, Err}
+use Rattle.gerg_refusals.specs.declared.Refusal.{Refusal}
+use Rattle.gerg_refusals.specs.declared.Refusal.TheVariants as refusal
 
 -- ---- the records
 record_bytes : (component parts : ℕ) → length (record_of component parts) ≡ 6
@@ -51,37 +52,37 @@ alike parts list e = eqb-true (length parts) (length list) (not-false (eqb (leng
 
 module _ (list parts out : List ℕ) where
   -- an answer and the bytes that it leaves
-  abbrev pub Written : ListAnswer → List ℕ → Type 0
+  abbrev pub Written : Result ℕ Refusal → List ℕ → Type 0
   Written a o = (a ≡ write_answer list parts (length out)) × (o ≡ bytes_written list parts out)
 
-  refused : (number value : ℕ) → write_answer list parts (length out) ≡ Refused number value → Written (Refused number value) out
-  unfolding bytes_written unless_refused
-  refused number value e = (sym e, sym (rw e))
+  refused : (r : Refusal) → write_answer list parts (length out) ≡ Err r → Written (Err r) out
+  unfolding bytes_written
+  refused r e = (sym e, sym (rw e))
 
   module _ (place : ℕ) (first : place ≡ bad_place list) where
-    pub row_3 : (eqb (length list) 0 || ltb place (length list)) ≡ true → Written (Refused 3 place) out
+    pub row_3 : (eqb (length list) 0 || ltb place (length list)) ≡ true → Written (Err (refusal.Components place)) out
     unfolding write_answer bad_list
-    row_3 t = refused 3 place (rw (← first, t))
+    row_3 t = refused (refusal.Components place) (rw (← first, t))
 
     module _ (known : (eqb (length list) 0 || ltb place (length list)) ≡ false) where
-      pub row_4 : not (eqb (length parts) (length list)) ≡ true → Written (Refused 4 (length list)) out
+      pub row_4 : not (eqb (length parts) (length list)) ≡ true → Written (Err (refusal.Fractions (length list))) out
       unfolding write_answer bad_list
-      row_4 t = refused 4 (length list) (rw (← first, known, t))
+      row_4 t = refused (refusal.Fractions (length list)) (rw (← first, known, t))
 
       module _ (like : not (eqb (length parts) (length list)) ≡ false) (bad : Bool) (told : bad ≡ bad_total parts) where
-        pub number_29 : bad ≡ true → Written (Refused 29 0) out
+        pub number_29 : bad ≡ true → Written (Err refusal.Total) out
         unfolding write_answer bad_list
-        number_29 t = refused 29 0 (rw (← first, known, like, ← told, t))
+        number_29 t = refused refusal.Total (rw (← first, known, like, ← told, t))
 
         module _ (total : bad ≡ false) where
-          pub row_24 : length out < 6 * length list → Written (Refused 24 (6 * length list)) out
+          pub row_24 : length out < 6 * length list → Written (Err (refusal.TooShort (6 * length list))) out
           unfolding write_answer bad_list
-          row_24 h = refused 24 (6 * length list) (rw (← first, known, like, ← told, total, lt-ltb (length out) (6 * length list) h))
+          row_24 h = refused (refusal.TooShort (6 * length list)) (rw (← first, known, like, ← told, total, lt-ltb (length out) (6 * length list) h))
 
-          answered : 6 * length list ≤ length out → write_answer list parts (length out) ≡ Listed (6 * length list)
+          answered : 6 * length list ≤ length out → write_answer list parts (length out) ≡ Ok (6 * length list)
           unfolding write_answer bad_list
           answered h = rw (← first, known, like, ← told, total, le-ltb (length out) (6 * length list) h)
 
-          pub accepted : (o : List ℕ) → 6 * length list ≤ length out → o ≡ sets out 0 (records_of list parts (length list)) → Written (Listed (6 * length list)) o
-          unfolding bytes_written unless_refused
+          pub accepted : (o : List ℕ) → 6 * length list ≤ length out → o ≡ sets out 0 (records_of list parts (length list)) → Written (Ok (6 * length list)) o
+          unfolding bytes_written
           accepted o h e = (sym (answered h), e ∙ sym (rw (answered h)))

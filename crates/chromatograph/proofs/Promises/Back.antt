@@ -9,13 +9,12 @@ use lib.Seq.{take_at}
 use Rattle.numerics.specs.Nearest.{Nearest}
 use Rattle.numerics.specs.Fill.{tabulate, length_tabulate, get_d_tabulate, tabulate_same}
 use Rattle.gerg_model.specs.MixtureCheck.{check_of}
-use Rattle.gerg_model.specs.declared.mixture.MixtureCheck.TheVariants.{Sound}
+use Rattle.std.proofs.Common.{Ok}
 use Rattle.packed_decimal.specs.Record.{component_at, parts_at, millionths, fraction_of}
 use Rattle.packed_decimal.specs.Records.{offset_of, records, records_of, components_of, parts_of, total_of}
 use Rattle.chromatograph.specs.Lists.{bad_list, read_of, components_read, parts_read, fractions_read, write_answer, bytes_written}
-use Rattle.chromatograph.specs.ListNumbers.{number_of}
+use Rattle.gerg_refusals.specs.Answer.{number_of}
 use Rattle.chromatograph.specs.Promised.{SoundList, SoundParts}
-use Rattle.chromatograph.specs.declared.ListAnswer.TheVariants.{Listed}
 use Rattle.chromatograph.proofs.Laws.Back.{component_back, parts_back, record_right, bytes_again, by_places}
 use Rattle.chromatograph.proofs.Laws.Filled.{get_d_filled, take_filled}
 use Rattle.chromatograph.proofs.Laws.Nearest.{fraction_nearest}
@@ -74,7 +73,7 @@ module _ (list parts out : List ℕ) (accepted : number_of (write_answer list pa
 
   module _ (components read_parts : List ℕ) (fractions : List Float) (l : length list ≤ length components) (p : length list ≤ length read_parts) (f : length list ≤ length fractions) where
     back : (b : List ℕ) → b ≡ records_of list parts (length list)
-        → (read_of b components read_parts fractions ≡ Listed (length list)) × ((components_read b components read_parts fractions ≡ list ++ drop (length list) components) × (parts_read b components read_parts fractions ≡ parts ++ drop (length list) read_parts))
+        → (read_of b components read_parts fractions ≡ Ok (length list)) × ((components_read b components read_parts fractions ≡ list ++ drop (length list) components) × (parts_read b components read_parts fractions ≡ parts ++ drop (length list) read_parts))
     unfolding components_of parts_of
     back b e =
         let s = parts_sound in
@@ -84,12 +83,12 @@ module _ (list parts out : List ℕ) (accepted : number_of (write_answer list pa
         let w = read_writes b components read_parts fractions (ap number_of a) in
         let c : components_of b ≡ list = ap components_of e ∙ same_components list parts s in
         let q : parts_of b ≡ parts = ap parts_of e ∙ same_parts list parts s in (
-          a ∙ ap Listed r,
+          a ∙ ap Ok r,
           (w.0 ∙ ap (λ (x : List ℕ). x ++ drop (records b) components) c ∙ ap (λ (m : ℕ). list ++ drop m components) r, w.1.0 ∙ ap (λ (x : List ℕ). x ++ drop (records b) read_parts) q ∙ ap (λ (m : ℕ). parts ++ drop m read_parts) r),
         )
 
     pub written_read_back :
-        (read_of bytes components read_parts fractions ≡ Listed (length list))
+        (read_of bytes components read_parts fractions ≡ Ok (length list))
         × ((components_read bytes components read_parts fractions ≡ list ++ drop (length list) components) × (parts_read bytes components read_parts fractions ≡ parts ++ drop (length list) read_parts))
     written_read_back = back bytes bytes_are
 
@@ -128,7 +127,7 @@ module _ (bytes list parts : List ℕ) (fractions : List Float) (accepted : numb
 
   -- "a list accepted and written again has the same bytes"
   pub read_written_again : (out : List ℕ) → length bytes ≤ length out
-      → (write_answer read_components read_parts (length out) ≡ Listed (length bytes)) × (bytes_written read_components read_parts out ≡ bytes ++ drop (length bytes) out)
+      → (write_answer read_components read_parts (length out) ≡ Ok (length bytes)) × (bytes_written read_components read_parts out ≡ bytes ++ drop (length bytes) out)
   unfolding components_of parts_of
   read_written_again out h =
       let c = components_of bytes in
@@ -138,7 +137,7 @@ module _ (bytes list parts : List ℕ) (fractions : List Float) (accepted : numb
       let w = write_writes c p out (ap number_of a) in
       let r : records_of c p (length c) ≡ bytes = ap (records_of c p) (components_length bytes) ∙ bytes_again bytes c p (records bytes) list_sound.whole list_sound.right
       (λ k l. get_d_tabulate (λ k. component_at bytes (offset_of k)) (records bytes) k 0 l) (λ k l. get_d_tabulate (λ k. parts_at bytes (offset_of k)) (records bytes) k 0 l) in
-      rw (components_are, parts_are) (a ∙ ap Listed m, w ∙ ap (λ (b : List ℕ). b ++ drop (offset_of (length c)) out) r ∙ ap (λ (k : ℕ). bytes ++ drop k out) m)
+      rw (components_are, parts_are) (a ∙ ap Ok m, w ∙ ap (λ (b : List ℕ). b ++ drop (offset_of (length c)) out) r ∙ ap (λ (k : ℕ). bytes ++ drop k out) m)
 
   part_small : (k : ℕ) → k < records bytes → parts_at bytes (offset_of k) < 2 ^ 32
   unfolding parts_of
@@ -157,7 +156,7 @@ module _ (bytes list parts : List ℕ) (fractions : List Float) (accepted : numb
       subst (λ (x : Float). Nearest (millionths (get_or (parts_read bytes list parts fractions) k 0)) x) (sym f) (subst (λ (x : ℕ). Nearest (millionths x) (fraction_of (parts_at bytes (offset_of k)))) (sym p) (fraction_nearest (parts_at bytes (offset_of k)) (part_small k h)))
 
   -- rows 3 and 4 pass the components and the fractions that were read
-  pub read_mixture : check_of read_components read_fractions ≡ Sound
+  pub read_mixture : check_of read_components read_fractions ≡ Ok tt
   unfolding parts_of
   read_mixture =
       let e : tabulate (λ k. fraction_of (get_or (parts_of bytes) k 0)) (length (parts_of bytes)) ≡ tabulate (λ k. fraction_of (parts_at bytes (offset_of k))) (records bytes) =

@@ -11,21 +11,21 @@ use lib.Ieee.{Float}
 use lib.ListN.{length, drop}
 use lib.Seq.{sets}
 use Rattle.gerg_model.specs.MixtureCheck.{check_of}
-use Rattle.gerg_model.specs.declared.mixture.MixtureCheck.TheVariants as mixture
+use Rattle.gerg_refusals.specs.declared.Refusal.TheVariants as refusal
+use Rattle.std.proofs.Common.{Err, Result, Ok}
 use Rattle.packed_decimal.specs.Records.{offset_of, records_of, bad_total}
-use Rattle.chromatograph.specs.Lists.{bad_place, bad_list, write_answer, unless_refused, bytes_written}
-use Rattle.chromatograph.specs.ListNumbers.{number_of, value_of}
+use Rattle.chromatograph.specs.Lists.{bad_place, bad_list, write_answer, bytes_written}
+use Rattle.gerg_refusals.specs.Answer.{number_of, value_of, memory_of}
 use Rattle.chromatograph.specs.Promised.{SoundParts}
-use Rattle.chromatograph.specs.declared.ListAnswer.{ListAnswer}
-use Rattle.chromatograph.specs.declared.ListAnswer.TheVariants.{Listed, Refused}
 use Rattle.chromatograph.proofs.Laws.Back.{stored_front}
 use Rattle.chromatograph.proofs.Laws.Decided.{decided, unlike}
 use Rattle.chromatograph.proofs.Laws.Known.{known, row_3_kept, place_at_most}
 use Rattle.packed_decimal.proofs.Laws.Total.{total_sound, sound_total}
 use Rattle.chromatograph.proofs.Laws.Writing.{alike, records_bytes}
+use Rattle.gerg_refusals.specs.declared.Refusal.{Refusal}
 
 module _ (list parts out : List ℕ) where
-  abbrev answer : ListAnswer
+  abbrev answer : Result ℕ Refusal
   answer = write_answer list parts (length out)
 
   abbrev needed : ℕ
@@ -38,11 +38,11 @@ module _ (list parts out : List ℕ) where
   short = ltb (length out) needed
 
   -- the answer by its four tests
-  through : (P : ListAnswer → Type 0) → (bad_list list ≡ true → P (Refused 3 (bad_place list))) → (bad_list list ≡ false → unlike_length ≡ true → P (Refused 4 (length list)))
-      → (bad_list list ≡ false → unlike_length ≡ false → bad_total parts ≡ true → P (Refused 29 0)) → (bad_list list ≡ false → unlike_length ≡ false → bad_total parts ≡ false → short ≡ true → P (Refused 24 needed))
-      → (bad_list list ≡ false → unlike_length ≡ false → bad_total parts ≡ false → short ≡ false → P (Listed needed)) → P answer
+  through : (P : Result ℕ Refusal → Type 0) → (bad_list list ≡ true → P (Err (refusal.Components (bad_place list)))) → (bad_list list ≡ false → unlike_length ≡ true → P (Err (refusal.Fractions (length list))))
+      → (bad_list list ≡ false → unlike_length ≡ false → bad_total parts ≡ true → P (Err refusal.Total)) → (bad_list list ≡ false → unlike_length ≡ false → bad_total parts ≡ false → short ≡ true → P (Err (refusal.TooShort needed)))
+      → (bad_list list ≡ false → unlike_length ≡ false → bad_total parts ≡ false → short ≡ false → P (Ok needed)) → P answer
   unfolding write_answer
-  through P = decided P (bad_list list) unlike_length (bad_total parts) short (Refused 3 (bad_place list)) (Refused 4 (length list)) (Refused 29 0) (Refused 24 needed) (Listed needed)
+  through P = decided P (bad_list list) unlike_length (bad_total parts) short (Err (refusal.Components (bad_place list))) (Err (refusal.Fractions (length list))) (Err refusal.Total) (Err (refusal.TooShort needed)) (Ok needed)
 
   -- "Every bad input is refused under a number of its own": 3, 4, 29 or 24; 0 means accepted
   pub write_numbers : (number_of answer ≡ 3) ⊎ ((number_of answer ≡ 4) ⊎ ((number_of answer ≡ 29) ⊎ ((number_of answer ≡ 24) ⊎ (number_of answer ≡ 0))))
@@ -51,9 +51,9 @@ module _ (list parts out : List ℕ) where
       (λ a. inl refl) (λ a b. inr (inl refl)) (λ a b c. inr (inr (inl refl))) (λ a b c d. inr (inr (inr (inl refl)))) (λ a b c d. inr (inr (inr (inr refl))))
 
   -- ---- "Component faults keep row 3": its number and value beside any fractions
-  pub write_3 : (beside : List Float) → number_of answer ≡ 3 → check_of list beside ≡ mixture.Refused 3 (value_of answer)
+  pub write_3 : (beside : List Float) → number_of answer ≡ 3 → check_of list beside ≡ Err (refusal.Components (value_of answer))
   write_3 beside =
-      through (λ a. number_of a ≡ 3 → check_of list beside ≡ mixture.Refused 3 (value_of a))
+      through (λ a. number_of a ≡ 3 → check_of list beside ≡ Err (refusal.Components (value_of a)))
       (λ a e. row_3_kept list beside a) (λ a b. unlike refl) (λ a b c. unlike refl) (λ a b c d. unlike refl) (λ a b c d. unlike refl)
 
   -- ---- "lists of unlike length row 4": the length of the component list; 29's value is 0; row 24's the bytes needed
@@ -67,28 +67,28 @@ module _ (list parts out : List ℕ) where
   write_24 = through (λ a. number_of a ≡ 24 → value_of a ≡ needed) (λ a. unlike refl) (λ a b. unlike refl) (λ a b c. unlike refl) (λ a b c d e. refl) (λ a b c d. unlike refl)
 
   -- ---- "Everything else is accepted": sound components and parts with bytes enough, and no other
-  pub write_accepted : number_of answer ≡ 0 → (answer ≡ Listed (offset_of (length list))) × (SoundParts list parts × (offset_of (length list) ≤ length out))
+  pub write_accepted : number_of answer ≡ 0 → (answer ≡ Ok (offset_of (length list))) × (SoundParts list parts × (offset_of (length list) ≤ length out))
   write_accepted =
-      through (λ a. number_of a ≡ 0 → (a ≡ Listed needed) × (SoundParts list parts × (needed ≤ length out)))
+      through (λ a. number_of a ≡ 0 → (a ≡ Ok needed) × (SoundParts list parts × (needed ≤ length out)))
       (λ a. unlike refl) (λ a b. unlike refl) (λ a b c. unlike refl) (λ a b c d. unlike refl)
       (λ a b c d e. (refl, (record { known = a; like = alike parts list b; million = total_sound parts c }, ltb-false (length out) needed d)))
 
-  pub write_accepts : SoundParts list parts → offset_of (length list) ≤ length out → answer ≡ Listed (offset_of (length list))
+  pub write_accepts : SoundParts list parts → offset_of (length list) ≤ length out → answer ≡ Ok (offset_of (length list))
   unfolding write_answer
   write_accepts s h = rw (s.known, eq-eqb (length parts) (length list) s.like, sound_total parts s.million, le-ltb (length out) needed h)
 
   -- ---- "Every row leaves all lent memory as it was"
   pub write_leaves : (number_of answer ≡ 0 → ⊥) → bytes_written list parts out ≡ out
-  unfolding bytes_written unless_refused
+  unfolding bytes_written
   write_leaves h = go answer h
     where
-      go : (a : ListAnswer) → (number_of a ≡ 0 → ⊥) → unless_refused a out (sets out 0 (records_of list parts (length list))) ≡ out
-      go (Listed m) h = absurd (h refl)
-      go (Refused number value) h = refl
+      go : (a : Result ℕ Refusal) → (number_of a ≡ 0 → ⊥) → memory_of a out (λ m. sets out 0 (records_of list parts (length list))) ≡ out
+      go (Ok m) h = absurd (h refl)
+      go (Err r) h = refl
 
   -- and an accepted call writes the records, "those past them stay as lent"
   pub write_writes : number_of answer ≡ 0 → bytes_written list parts out ≡ records_of list parts (length list) ++ drop (offset_of (length list)) out
-  unfolding bytes_written unless_refused
+  unfolding bytes_written
   write_writes e =
       let a = write_accepted e in
       let r = records_of list parts (length list) in

@@ -1,18 +1,14 @@
-use Rattle.std.proofs.Common.{◌≡◌, sym, refl, ap, ◌∙◌, add-one, arith}
-use Rattle.generator.specs.Generator.{next_of, after_of}
+use Rattle.std.proofs.Common.{sym, refl, ap, ◌∙◌, add-one, arith}
+use Rattle.generator.specs.Generator.{next_of, after_of, start_of}
 use Rattle.generator.proofs.after.Goals as goal
 
-pub loop-k-init : goal.loop-k-init
+pub loop-init : goal.loop-init
 unfolding after_of
-loop-k-init c = (omega arith, refl)
+loop-init c = refl
 
-pub loop-k-preserved : goal.loop-k-preserved
+pub loop-preserved : goal.loop-preserved
 unfolding after_of
-loop-k-preserved c =
-    let t = c.loop-k in
-    (omega arith, c.next-g.ensures ∙ ap next_of t.invariant.1 ∙ ap (after_of _) (sym (add-one t.k)))
+loop-preserved c = c.next-g.ensures ∙ ap next_of c.loop.invariant ∙ ap (after_of (start_of c.args.seed)) (sym (add-one c.loop.counter))
 
 pub returns : goal.returns
-returns c =
-    let t = c.loop-k in
-    t.invariant.1 ∙ ap (after_of _) (let e : t.k ≡ c.args.draws = omega arith in e)
+returns c = c.loop.invariant ∙ ap (after_of _) (omega arith)

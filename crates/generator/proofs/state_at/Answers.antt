@@ -7,4 +7,4 @@ use Rattle.generator.proofs.state_at.Goals as goal
 
 pub returns : goal.returns
 returns c =
-    ap (λ (d : DrawnState). d.state) (c.draw_state-drawn.ensures ∙ ap drawn_state_of c.after-g.ensures) ∙ drawn_state _ _
+    ap (λ (d : DrawnState). d.state) (c.draw_state-drawn.ensures ∙ ap drawn_state_of c.after-g.ensures) ∙ rw c.from.ensures (drawn_state _ _)

@@ -16,11 +16,11 @@ use Rattle.gerg_tables.specs.declared.Tables.{Tables}
 use Rattle.gerg_reducing.specs.declared.GergModel.{GergModel}
 use Rattle.gerg.specs.declared.GergState.{GergState}
 use Rattle.gerg.specs.declared.Range.{Range}
-use Rattle.gerg.specs.declared.evaluate.EvaluateAnswer.{EvaluateAnswer}
 use Rattle.gerg.specs.Evaluate.{evaluate_of, stiffness_of, pressure_slope_of, cv_of, cp_of, pressure_out, finite_state, parts_of, state_of, state_from}
 pub use Rattle.gerg.specs.Answered.{Answered}
 use Rattle.numerics.specs.Zero.{zero_is, above_zero}
 use Rattle.gerg.proofs.Laws.Admitted.{evaluate_admitted}
+use Rattle.std.specs.Prelude.{Ok}
 
 -- ---- row 11
 -- what zero is level with is level with zero
@@ -95,7 +95,7 @@ density_same : (s : GergState) (temperature rho mass : Float) → s ≡ state_of
 unfolding state_of state_from parts_of
 density_same s temperature rho mass q = ap (λ (z : GergState). z.molar_density) q
 
-pub answered : (t : Tables) (m : GergModel) (range : Range) (temperature rho : Float) (s : GergState) → evaluate_of t m range temperature rho ≡ EvaluateAnswer.State s → Answered range rho s
+pub answered : (t : Tables) (m : GergModel) (range : Range) (temperature rho : Float) (s : GergState) → evaluate_of t m range temperature rho ≡ Ok s → Answered range rho s
 answered t m range temperature rho s e =
     let a = evaluate_admitted t m range temperature rho s e in
     let p = pressure_in range.pressure_high s.pressure_pa a.pressure_within in

@@ -17,14 +17,13 @@ use Rattle.gerg_derivatives.specs.declared.derivatives.GergDerivatives.{GergDeri
 use Rattle.gerg_derivatives.specs.Derivatives.{zero_derivatives}
 use Rattle.gerg_terms.specs.Terms.{components_of}
 use Rattle.gerg.specs.declared.Range.{Range}
-use Rattle.gerg.specs.declared.helmholtz.HelmholtzAnswer.{HelmholtzAnswer}
-use Rattle.gerg.specs.declared.helmholtz.HelmholtzAnswer.TheVariants as derived
-use Rattle.gerg.specs.declared.evaluate.EvaluateAnswer.TheVariants as evaluated
 use Rattle.gerg.specs.Helmholtz.{helmholtz_of, checked_of, within_range}
-use Rattle.gerg.specs.HelmholtzNumbers as helmholtz
+use Rattle.gerg_refusals.specs.Answer.{number_of}
 use Rattle.gerg.specs.Evaluate.{evaluate_of, admitted_answer, admitted_of, unstable, pressure_out, pressure_of, finite_state, state_of}
-use Rattle.gerg.specs.EvaluateNumbers as evaluate
 use Rattle.gerg.proofs.Laws.Answered.{pressure_in}
+use Rattle.std.specs.Prelude.{Result, Ok, Err}
+use Rattle.gerg_refusals.specs.declared.Refusal.{Refusal}
+use Rattle.gerg_refusals.specs.declared.Refusal.TheVariants as refusal
 
 -- x at most y, both finite and above zero
 abbrev pub AtMost : Float → Float → Type 0
@@ -77,17 +76,17 @@ module _ (a b : Range) (i : Inside a b) where
 
   module _ (t : Tables) (m : GergModel) (temperature rho : Float) where
     -- row 8 aside, rows 6 to 9 answer in b what they answer in a
-    pub helmholtz_inside : (helmholtz.number_of (helmholtz_of t m a temperature rho) ≡ 8 → ⊥) → helmholtz_of t m b temperature rho ≡ helmholtz_of t m a temperature rho
+    pub helmholtz_inside : (number_of (helmholtz_of t m a temperature rho) ≡ 8 → ⊥) → helmholtz_of t m b temperature rho ≡ helmholtz_of t m a temperature rho
     unfolding helmholtz_of
     helmholtz_inside n = go (finite rho) (le rho +0) (within_range a temperature rho) refl n
       where
-        c : HelmholtzAnswer
+        c : Result GergDerivatives Refusal
         c = checked_of (components_of t m.fractions temperature rho (delta_of m rho) (tau_of m temperature) zero_derivatives)
 
-        rows : Bool → Bool → Bool → HelmholtzAnswer
-        rows x y w = pick (not x) (derived.Refused 6) (pick y (derived.Refused 7) (pick (not w) (derived.Refused 8) c))
+        rows : Bool → Bool → Bool → Result GergDerivatives Refusal
+        rows x y w = pick (not x) (Err refusal.DensityNotFinite) (pick y (Err refusal.DensityNotPositive) (pick (not w) (Err refusal.OutsideRange) c))
 
-        go : (x y w : Bool) → within_range a temperature rho ≡ w → (helmholtz.number_of (rows x y w) ≡ 8 → ⊥) → rows x y (within_range b temperature rho) ≡ rows x y w
+        go : (x y w : Bool) → within_range a temperature rho ≡ w → (number_of (rows x y w) ≡ 8 → ⊥) → rows x y (within_range b temperature rho) ≡ rows x y w
         go false y w e n = refl
         go true true w e n = refl
         go true false false e n = absurd (n refl)
@@ -95,33 +94,33 @@ module _ (a b : Range) (i : Inside a b) where
 
     -- rows 8 and 11 aside, rows 6 to 12 answer in b what they answer in a
     pub evaluate_inside :
-        (evaluate.number_of (evaluate_of t m a temperature rho) ≡ 8 → ⊥) → (evaluate.number_of (evaluate_of t m a temperature rho) ≡ 11 → ⊥) →
+        (number_of (evaluate_of t m a temperature rho) ≡ 8 → ⊥) → (number_of (evaluate_of t m a temperature rho) ≡ 11 → ⊥) →
         evaluate_of t m b temperature rho ≡ evaluate_of t m a temperature rho
     unfolding evaluate_of admitted_answer admitted_of
     evaluate_inside n8 n11 = ap (admitted_answer temperature rho m.molar_mass b.pressure_high) (helmholtz_inside (λ e. n8 (early (helmholtz_of t m a temperature rho) e))) ∙ go (helmholtz_of t m a temperature rho) n11
       where
-        early : (h : HelmholtzAnswer) → helmholtz.number_of h ≡ 8 → evaluate.number_of (admitted_answer temperature rho m.molar_mass a.pressure_high h) ≡ 8
-        early (derived.Derivatives d) e = absurd (zero_8 e)
+        early : (h : Result GergDerivatives Refusal) → number_of h ≡ 8 → number_of (admitted_answer temperature rho m.molar_mass a.pressure_high h) ≡ 8
+        early (Ok d) e = absurd (zero_8 e)
           where
             zero_8 : ◌≡◌ {A = ℕ} 0 8 → ⊥
             zero_8 e = omega arith
-        early (derived.Refused k) e = e
+        early (Err r) e = e
 
         rows : (d : GergDerivatives) (u p : Bool) → pressure_out a.pressure_high (pressure_of d temperature rho) ≡ p →
-            (evaluate.number_of (pick u (evaluated.Refused 10) (pick p (evaluated.Refused 11) (pick (finite_state (state_of d temperature rho m.molar_mass)) (evaluated.State (state_of d temperature rho m.molar_mass)) (evaluated.Refused 12)))) ≡ 11 → ⊥) →
-            pick u (evaluated.Refused 10) (pick (pressure_out b.pressure_high (pressure_of d temperature rho)) (evaluated.Refused 11) (pick (finite_state (state_of d temperature rho m.molar_mass)) (evaluated.State (state_of d temperature rho m.molar_mass)) (evaluated.Refused 12)))
-            ≡ pick u (evaluated.Refused 10) (pick p (evaluated.Refused 11) (pick (finite_state (state_of d temperature rho m.molar_mass)) (evaluated.State (state_of d temperature rho m.molar_mass)) (evaluated.Refused 12)))
+            (number_of (pick u (Err refusal.Unstable) (pick p (Err refusal.Pressure) (pick (finite_state (state_of d temperature rho m.molar_mass)) (Ok (state_of d temperature rho m.molar_mass)) (Err refusal.NotFinite)))) ≡ 11 → ⊥) →
+            pick u (Err refusal.Unstable) (pick (pressure_out b.pressure_high (pressure_of d temperature rho)) (Err refusal.Pressure) (pick (finite_state (state_of d temperature rho m.molar_mass)) (Ok (state_of d temperature rho m.molar_mass)) (Err refusal.NotFinite)))
+            ≡ pick u (Err refusal.Unstable) (pick p (Err refusal.Pressure) (pick (finite_state (state_of d temperature rho m.molar_mass)) (Ok (state_of d temperature rho m.molar_mass)) (Err refusal.NotFinite)))
         rows d true p e n = refl
         rows d false true e n = absurd (n refl)
         rows d false false e n = rw (pressure_inside (pressure_of d temperature rho) e)
 
-        go : (h : HelmholtzAnswer) → (evaluate.number_of (admitted_answer temperature rho m.molar_mass a.pressure_high h) ≡ 11 → ⊥) →
+        go : (h : Result GergDerivatives Refusal) → (number_of (admitted_answer temperature rho m.molar_mass a.pressure_high h) ≡ 11 → ⊥) →
             admitted_answer temperature rho m.molar_mass b.pressure_high h ≡ admitted_answer temperature rho m.molar_mass a.pressure_high h
-        go (derived.Derivatives d) n = rows d (unstable d temperature) (pressure_out a.pressure_high (pressure_of d temperature rho)) refl n
-        go (derived.Refused k) n = refl
+        go (Ok d) n = rows d (unstable d temperature) (pressure_out a.pressure_high (pressure_of d temperature rho)) refl n
+        go (Err r) n = refl
 
 -- at another temperature a sound density is refused by row 8
 pub outside_ends :
-    (t : Tables) (m : GergModel) (range : Range) (temperature rho : Float) → T (positive rho) → between_ends range temperature ≡ false → helmholtz_of t m range temperature rho ≡ derived.Refused 8
+    (t : Tables) (m : GergModel) (range : Range) (temperature rho : Float) → T (positive rho) → between_ends range temperature ≡ false → helmholtz_of t m range temperature rho ≡ Err refusal.OutsideRange
 unfolding helmholtz_of within_range
 outside_ends t m range temperature rho p e = rw (is_true (finite rho) (positive-finite rho p), not_at_most_zero rho p, e)

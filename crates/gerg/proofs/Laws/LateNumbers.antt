@@ -14,14 +14,13 @@ use Rattle.gerg_derivatives.specs.Derivatives.{zero_derivatives}
 use Rattle.gerg_terms.specs.Terms.{components_of}
 use Rattle.gerg.specs.declared.GergState.{GergState}
 use Rattle.gerg.specs.declared.Range.{Range}
-use Rattle.gerg.specs.declared.helmholtz.HelmholtzAnswer.{HelmholtzAnswer}
-use Rattle.gerg.specs.declared.helmholtz.HelmholtzAnswer.TheVariants as derived
-use Rattle.gerg.specs.declared.evaluate.EvaluateAnswer.{EvaluateAnswer}
-use Rattle.gerg.specs.declared.evaluate.EvaluateAnswer.TheVariants as evaluated
 use Rattle.gerg.specs.Helmholtz.{helmholtz_of, checked_of, within_range, all_finite}
-use Rattle.gerg.specs.HelmholtzNumbers as helmholtz
+use Rattle.gerg_refusals.specs.Answer.{number_of}
+use Rattle.gerg_refusals.specs.Refusal as of_refusal
 use Rattle.gerg.specs.Evaluate.{evaluate_of, admitted_answer, admitted_of, unstable, pressure_out, pressure_of, finite_state, state_of}
-use Rattle.gerg.specs.EvaluateNumbers as evaluate
+use Rattle.std.specs.Prelude.{Result, Ok, Err}
+use Rattle.gerg_refusals.specs.declared.Refusal.{Refusal}
+use Rattle.gerg_refusals.specs.declared.Refusal.TheVariants as refusal
 
 -- the number of an answer: 0, or one past rows 1 to 5 and at most `last`
 pub record Late (last n : ℕ) : Type 0 where
@@ -38,12 +37,12 @@ pub late_wider : (less last n : ℕ) → less ≤ last → Late less n → Late 
 late_wider less last n h k = let m = k.most in record { most = omega arith; late = k.late }
 
 -- a refusal of rows 6 to 9
-abbrev pub Derived : HelmholtzAnswer → Type 0
-Derived (derived.Derivatives a) = Unit {0}
-Derived (derived.Refused n) = (5 < n) × (n ≤ 9)
+abbrev pub Derived : Result GergDerivatives Refusal → Type 0
+Derived (Ok a) = Unit {0}
+Derived (Err r) = (5 < of_refusal.number_of r) × (of_refusal.number_of r ≤ 9)
 
 rows_6_to_9 : (p q r f : Bool) (a : GergDerivatives) →
-    Derived (pick p (derived.Refused 6) (pick q (derived.Refused 7) (pick r (derived.Refused 8) (pick f (derived.Derivatives a) (derived.Refused 9)))))
+    Derived (pick p (Err refusal.DensityNotFinite) (pick q (Err refusal.DensityNotPositive) (pick r (Err refusal.OutsideRange) (pick f (Ok a) (Err refusal.Derivative)))))
 rows_6_to_9 true q r f a = (omega arith, omega arith)
 rows_6_to_9 false true r f a = (omega arith, omega arith)
 rows_6_to_9 false false true f a = (omega arith, omega arith)
@@ -51,21 +50,21 @@ rows_6_to_9 false false false true a = tt
 rows_6_to_9 false false false false a = (omega arith, omega arith)
 
 -- and of rows 10 to 12 besides
-abbrev pub Evaluated : EvaluateAnswer → Type 0
-Evaluated (evaluated.State s) = Unit {0}
-Evaluated (evaluated.Refused n) = (5 < n) × (n ≤ 12)
+abbrev pub Evaluated : Result GergState Refusal → Type 0
+Evaluated (Ok s) = Unit {0}
+Evaluated (Err r) = (5 < of_refusal.number_of r) × (of_refusal.number_of r ≤ 12)
 
-rows_10_to_12 : (p q f : Bool) (s : GergState) → Evaluated (pick p (evaluated.Refused 10) (pick q (evaluated.Refused 11) (pick f (evaluated.State s) (evaluated.Refused 12))))
+rows_10_to_12 : (p q f : Bool) (s : GergState) → Evaluated (pick p (Err refusal.Unstable) (pick q (Err refusal.Pressure) (pick f (Ok s) (Err refusal.NotFinite))))
 rows_10_to_12 true q f s = (omega arith, omega arith)
 rows_10_to_12 false true f s = (omega arith, omega arith)
 rows_10_to_12 false false true s = tt
 rows_10_to_12 false false false s = (omega arith, omega arith)
 
-after : (temperature rho mass high : Float) (h : HelmholtzAnswer) → Derived h → Evaluated (admitted_answer temperature rho mass high h)
+after : (temperature rho mass high : Float) (h : Result GergDerivatives Refusal) → Derived h → Evaluated (admitted_answer temperature rho mass high h)
 unfolding admitted_answer admitted_of
-after temperature rho mass high (derived.Derivatives a) d =
+after temperature rho mass high (Ok a) d =
     rows_10_to_12 (unstable a temperature) (pressure_out high (pressure_of a temperature rho)) (finite_state (state_of a temperature rho mass)) (state_of a temperature rho mass)
-after temperature rho mass high (derived.Refused n) d = let k = d.1 in (d.0, omega arith)
+after temperature rho mass high (Err r) d = let k = d.1 in (d.0, omega arith)
 
 module _ (t : Tables) (m : GergModel) (range : Range) (temperature rho : Float) where
   pub helmholtz_rows : Derived (helmholtz_of t m range temperature rho)
@@ -78,16 +77,16 @@ module _ (t : Tables) (m : GergModel) (range : Range) (temperature rho : Float) 
   unfolding evaluate_of
   evaluate_rows = after temperature rho m.molar_mass range.pressure_high (helmholtz_of t m range temperature rho) helmholtz_rows
 
-  pub helmholtz_numbers : Late 9 (helmholtz.number_of (helmholtz_of t m range temperature rho))
+  pub helmholtz_numbers : Late 9 (number_of (helmholtz_of t m range temperature rho))
   helmholtz_numbers = go (helmholtz_of t m range temperature rho) helmholtz_rows
     where
-      go : (h : HelmholtzAnswer) → Derived h → Late 9 (helmholtz.number_of h)
-      go (derived.Derivatives a) d = late_none 9
-      go (derived.Refused n) d = late_row 9 n d.0 d.1
+      go : (h : Result GergDerivatives Refusal) → Derived h → Late 9 (number_of h)
+      go (Ok a) d = late_none 9
+      go (Err r) d = late_row 9 _ d.0 d.1
 
-  pub evaluate_numbers : Late 12 (evaluate.number_of (evaluate_of t m range temperature rho))
+  pub evaluate_numbers : Late 12 (number_of (evaluate_of t m range temperature rho))
   evaluate_numbers = go (evaluate_of t m range temperature rho) evaluate_rows
     where
-      go : (e : EvaluateAnswer) → Evaluated e → Late 12 (evaluate.number_of e)
-      go (evaluated.State s) d = late_none 12
-      go (evaluated.Refused n) d = late_row 12 n d.0 d.1
+      go : (e : Result GergState Refusal) → Evaluated e → Late 12 (number_of e)
+      go (Ok s) d = late_none 12
+      go (Err r) d = late_row 12 _ d.0 d.1

@@ -18,33 +18,32 @@ use Rattle.gerg_derivatives.specs.Derivatives.{zero_derivatives}
 use Rattle.gerg_terms.specs.Terms.{components_of}
 use Rattle.gerg.specs.declared.GergState.{GergState}
 use Rattle.gerg.specs.declared.Range.{Range}
-use Rattle.gerg.specs.declared.helmholtz.HelmholtzAnswer.{HelmholtzAnswer}
-use Rattle.gerg.specs.declared.helmholtz.HelmholtzAnswer.TheVariants as derived
-use Rattle.gerg.specs.declared.evaluate.EvaluateAnswer.TheVariants as evaluated
 use Rattle.gerg.specs.Helmholtz.{helmholtz_of, checked_of, within_range, all_finite}
-use Rattle.gerg.specs.HelmholtzNumbers as helmholtz
+use Rattle.gerg_refusals.specs.Answer.{number_of}
 use Rattle.gerg.specs.Evaluate.{evaluate_of, admitted_answer, admitted_of, unstable, pressure_out, pressure_of, finite_state, state_of}
-use Rattle.gerg.specs.EvaluateNumbers as evaluate
+use Rattle.std.specs.Prelude.{Result, Ok, Err}
+use Rattle.gerg_refusals.specs.declared.Refusal.{Refusal}
+use Rattle.gerg_refusals.specs.declared.Refusal.TheVariants as refusal
 
 -- the numbers 6, 7 and 8
 abbrev pub Early : ℕ → Type 0
 Early n = (6 ≤ n) × (n ≤ 8)
 
-checked_late : (f : Bool) (a : GergDerivatives) → Early (helmholtz.number_of (pick f (derived.Derivatives a) (derived.Refused 9))) → ⊥
+checked_late : (f : Bool) (a : GergDerivatives) → Early (number_of (pick f (Ok a) (Err refusal.Derivative))) → ⊥
 checked_late true a h = let k = h.0 in omega arith
 checked_late false a h = let k = h.1 in omega arith
 
-admitted_late : (p q f : Bool) (s : GergState) → Early (evaluate.number_of (pick p (evaluated.Refused 10) (pick q (evaluated.Refused 11) (pick f (evaluated.State s) (evaluated.Refused 12))))) → ⊥
+admitted_late : (p q f : Bool) (s : GergState) → Early (number_of (pick p (Err refusal.Unstable) (pick q (Err refusal.Pressure) (pick f (Ok s) (Err refusal.NotFinite))))) → ⊥
 admitted_late true q f s h = let k = h.1 in omega arith
 admitted_late false true f s h = let k = h.1 in omega arith
 admitted_late false false true s h = let k = h.0 in omega arith
 admitted_late false false false s h = let k = h.1 in omega arith
 
-after_late : (temperature rho mass high : Float) (h : HelmholtzAnswer) → (Early (helmholtz.number_of h) → ⊥) → Early (evaluate.number_of (admitted_answer temperature rho mass high h)) → ⊥
+after_late : (temperature rho mass high : Float) (h : Result GergDerivatives Refusal) → (Early (number_of h) → ⊥) → Early (number_of (admitted_answer temperature rho mass high h)) → ⊥
 unfolding admitted_answer admitted_of
-after_late temperature rho mass high (derived.Derivatives a) d =
+after_late temperature rho mass high (Ok a) d =
     admitted_late (unstable a temperature) (pressure_out high (pressure_of a temperature rho)) (finite_state (state_of a temperature rho mass)) (state_of a temperature rho mass)
-after_late temperature rho mass high (derived.Refused n) d = d
+after_late temperature rho mass high (Err r) d = d
 
 -- a density in 1e-3..30000
 density_positive : (rho : Float) → T (le (bits 0x3f50_624d_d2f1_a9fc) rho) → T (le rho (bits 0x40dd_4c00_0000_0000)) → T (positive rho)
@@ -58,7 +57,7 @@ module _ (range : Range) (temperature rho : Float) (a : T (le range.temperature_
   within_range_lem =
       rw (is_true (le range.temperature_low temperature) a, is_true (le temperature range.temperature_high) b, is_true (le (bits 0x3f50_624d_d2f1_a9fc) rho) c, is_true (le rho (bits 0x40dd_4c00_0000_0000)) d)
 
-  pub evaluate_late : (t : Tables) (m : GergModel) → Early (evaluate.number_of (evaluate_of t m range temperature rho)) → ⊥
+  pub evaluate_late : (t : Tables) (m : GergModel) → Early (number_of (evaluate_of t m range temperature rho)) → ⊥
   unfolding evaluate_of helmholtz_of checked_of
   evaluate_late t m =
       let p = density_positive rho c d in

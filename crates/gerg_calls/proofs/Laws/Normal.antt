@@ -3,53 +3,52 @@ use mathlib.Core.Path.{◌≡◌, refl}
 use mathlib.Core.List.{List, []}
 use Prim.Native.Nat.{ℕ}
 use lib.Ieee.{Float}
+use Rattle.std.specs.Prelude.{Err}
 use Rattle.numerics.specs.Double.{pick}
+use Rattle.gerg_refusals.specs.Answer.{and_then, memory_of}
+use Rattle.gerg_refusals.specs.declared.Refusal.TheVariants as refusal
 use Rattle.gerg_coefficients.specs.Answer.{tables_of}
 use Rattle.gerg.specs.Helmholtz.{normal_range}
 use Rattle.gerg.specs.Evaluate.{evaluate_of}
 use Rattle.gerg_density.specs.Density.{density_of, density_trials}
-use Rattle.gerg_density.specs.declared.DensityAnswer.TheVariants as density
 use Rattle.gerg_search.specs.declared.Options.{Options}
-use Rattle.gerg_prepared.specs.Mixed.{mixed_of, after_rows, memory_rows}
-use Rattle.gerg_answers.specs.declared.PropertiesAnswer.TheVariants as answer
+use Rattle.gerg_prepared.specs.Mixed.{mixed_of}
 use Rattle.gerg_calls.specs.Calls as calls
 
 module _ (bytes list : List ℕ) (fractions : List Float) where
   module _ (temperature rho : Float) where
     pub properties_normal :
         calls.properties_of bytes list fractions temperature rho ≡
-        after_rows answer.Refused (mixed_of bytes list fractions).refusal (calls.stated_of (evaluate_of (tables_of bytes) (mixed_of bytes list fractions).model normal_range temperature rho))
-    unfolding calls.properties_in calls.properties_from calls.evaluated_of
+        and_then (mixed_of bytes list fractions) (λ m. evaluate_of (tables_of bytes) m.model normal_range temperature rho)
+    unfolding calls.properties_in
     properties_normal = refl
 
     pub fugacity_normal :
         (out : List Float) →
         let t = tables_of bytes in
-        let m = mixed_of bytes list fractions in
         calls.fugacity_answer bytes list fractions temperature rho out ≡
-        after_rows answer.Refused m.refusal
-        (pick (calls.too_short m out) (answer.Refused 24 m.model.components) (calls.fugacity_after t m temperature rho (evaluate_of t m.model normal_range temperature rho)))
-    unfolding calls.fugacity_in calls.fugacity_from calls.evaluated_of
+        and_then (mixed_of bytes list fractions)
+        (λ m. pick (calls.too_short m.model out) (Err (refusal.TooShort m.model.components)) (calls.fugacity_after t m.model m.gradients temperature rho (evaluate_of t m.model normal_range temperature rho)))
+    unfolding calls.fugacity_in calls.fugacity_from
     fugacity_normal out = refl
 
     pub fugacity_memory_normal :
         (out : List Float) →
         let t = tables_of bytes in
-        let m = mixed_of bytes list fractions in
         calls.fugacity_written bytes list fractions temperature rho out ≡
-        memory_rows m.refusal out (pick (calls.too_short m out) out (calls.memory_after t m temperature rho out (evaluate_of t m.model normal_range temperature rho)))
-    unfolding calls.fugacity_written_in calls.memory_from calls.evaluated_of
+        memory_of (mixed_of bytes list fractions) out (λ m. pick (calls.too_short m.model out) out (calls.memory_after t m.model m.gradients temperature rho out (evaluate_of t m.model normal_range temperature rho)))
+    unfolding calls.fugacity_written_in calls.memory_from
     fugacity_memory_normal out = refl
 
   module _ (temperature target : Float) (o : Options) where
     pub density_normal :
         calls.density_call bytes list fractions temperature target o ≡
-        after_rows density.Refused (mixed_of bytes list fractions).refusal (density_of (tables_of bytes) (mixed_of bytes list fractions).model normal_range temperature target o)
-    unfolding calls.density_in calls.density_from
+        and_then (mixed_of bytes list fractions) (λ m. density_of (tables_of bytes) m.model normal_range temperature target o)
+    unfolding calls.density_in
     density_normal = refl
 
     pub trials_normal :
         calls.density_call_trials bytes list fractions temperature target o ≡
-        memory_rows (mixed_of bytes list fractions).refusal [] (density_trials (tables_of bytes) (mixed_of bytes list fractions).model normal_range temperature target o)
+        memory_of (mixed_of bytes list fractions) [] (λ m. density_trials (tables_of bytes) m.model normal_range temperature target o)
     unfolding calls.density_trials_in
     trials_normal = refl

@@ -10,10 +10,11 @@ use Rattle.gerg.specs.declared.Range.{Range}
 use Rattle.gerg_search.specs.Checks.{options_refused, least_density, most_density, most_tolerance}
 use Rattle.gerg_search.specs.Run.{outcome_of}
 use Rattle.gerg_density.specs.Density.{search_of, finished_of, density_of}
-use Rattle.gerg_density.specs.DensityNumbers.{number_of, value_of}
+use Rattle.gerg_refusals.specs.Answer.{number_of, value_of}
 use Rattle.gerg_density.specs.Cases.{empty_at}
-use Rattle.gerg_search.specs.declared.Outcome.{Outcome}
-use Rattle.gerg_search.specs.declared.Outcome.TheVariants.{Failed}
+use Rattle.gerg_search.specs.Sample.{Outcome}
+use Rattle.std.specs.Prelude.{Err}
+use Rattle.gerg_refusals.specs.declared.Refusal.TheVariants as refusal
 
 or_true : (a b c d : Bool) → (a || true || b || c || d) ≡ true
 or_true true b c d = refl
@@ -29,5 +30,5 @@ pub case_13 : (t : Tables) (m : GergModel) (range : Range) (temperature target x
 unfolding density_of finished_of search_of outcome_of
 case_13 t m range temperature target x = (ap (λ (w : Outcome). number_of (finished_of t m range temperature target (empty_at x) w)) searched, ap (λ (w : Outcome). value_of (finished_of t m range temperature target (empty_at x) w)) searched)
   where
-    searched : search_of t m range temperature target (empty_at x) ≡ Failed 13 0
+    searched : search_of t m range temperature target (empty_at x) ≡ Err refusal.Options
     searched = rw (refused x)

@@ -10,22 +10,22 @@ use lib.Ieee.Positive.{positive}
 use Rattle.gerg_tables.specs.declared.Tables.{Tables}
 use Rattle.gerg_reducing.specs.declared.GergModel.{GergModel}
 use Rattle.gerg.specs.declared.Range.{Range}
-use Rattle.gerg.specs.declared.evaluate.EvaluateAnswer.{EvaluateAnswer}
 use Rattle.gerg.specs.Evaluate.{evaluate_of}
-use Rattle.gerg.specs.EvaluateNumbers as evaluate
 use Rattle.gerg.proofs.Laws.Inside.{Inside, between_ends, helmholtz_same, outside_ends, evaluate_inside}
 use Rattle.gerg_search.specs.Checks.{options_refused, target_refused}
 use Rattle.gerg_search.specs.Run.{outcome_of, trials_of}
 use Rattle.gerg_search.specs.States.{Doubles}
 use Rattle.gerg_search.specs.declared.Bracket.{Bracket}
 use Rattle.gerg_search.specs.declared.Options.{Options}
-use Rattle.gerg_search.specs.declared.Outcome.{Outcome}
-use Rattle.gerg_search.specs.declared.Outcome.TheVariants.{Found, Failed}
-use Rattle.gerg_search.specs.declared.Sample.TheVariants.{Stopped}
+use Rattle.gerg_search.specs.Sample.{Outcome}
 use Rattle.gerg_search.proofs.Laws.Start.{begun, target_within}
 use Rattle.gerg_search.proofs.Laws.Outcomes.{low_refused}
 use Rattle.gerg_density.specs.Density.{trial_of, verdict_of, search_of, density_trials, checked_of, finished_of, density_of}
-use Rattle.gerg_density.specs.DensityNumbers.{number_of}
+use Rattle.gerg_refusals.specs.Answer.{number_of}
+use Rattle.std.specs.Prelude.{Result, Ok, Err}
+use Rattle.gerg.specs.declared.GergState.{GergState}
+use Rattle.gerg_refusals.specs.declared.Refusal.{Refusal}
+use Rattle.gerg_refusals.specs.declared.Refusal.TheVariants as refusal
 
 module _ (a b : Range) (i : Inside a b) (t : Tables) (m : GergModel) (temperature target : Float) (o : Options) (doubles : Doubles o) where
   -- at a temperature within a's ends every trial has one verdict in both
@@ -43,9 +43,9 @@ module _ (a b : Range) (i : Inside a b) (t : Tables) (m : GergModel) (temperatur
   unfolding density_of finished_of search_of verdict_of trial_of
   outside_refused p q e =
       ap (λ (w : Outcome). number_of (finished_of t m a temperature target o w))
-      (low_refused a.pressure_high target o (verdict_of t m a temperature target) 8 p q (stopped (begun o doubles p).ranged.low.above))
+      (low_refused a.pressure_high target o (verdict_of t m a temperature target) refusal.OutsideRange p q (stopped (begun o doubles p).ranged.low.above))
     where
-      stopped : T (positive o.bracket.lo) → verdict_of t m a temperature target o.bracket.lo ≡ Stopped 8
+      stopped : T (positive o.bracket.lo) → verdict_of t m a temperature target o.bracket.lo ≡ Err refusal.OutsideRange
       stopped h = ap (trial_of temperature target o.bracket.lo) (outside_ends t m a temperature o.bracket.lo h e)
 
   target_refused_lem : options_refused o ≡ false → target_refused a.pressure_high target ≡ true → number_of (density_of t m a temperature target o) ≡ 14
@@ -90,18 +90,12 @@ module _ (a b : Range) (i : Inside a b) (t : Tables) (m : GergModel) (temperatur
     unfolding density_of finished_of checked_of
     density_inside n11 = ap (finished_of t m b temperature target o) search_inside ∙ go (search_of t m a temperature target o) n8 n11
       where
-        refused : (x : Float) (k : ℕ) (last : Bracket) (n : ℕ) (e : EvaluateAnswer) → (n ≡ 0 → ⊥) → evaluate.number_of e ≡ n → number_of (checked_of target o k last e) ≡ n
-        refused x k last n (EvaluateAnswer.State s) z h = absurd (z (sym h))
-        refused x k last n (EvaluateAnswer.Refused j) z h = h
+        refused : (k : ℕ) (last : Bracket) (n : ℕ) (e : Result GergState Refusal) → (n ≡ 0 → ⊥) → number_of e ≡ n → number_of (checked_of target o k last e) ≡ n
+        refused k last n (Ok s) z h = absurd (z (sym h))
+        refused k last n (Err j) z h = h
 
         go : (w : Outcome) → (number_of (finished_of t m a temperature target o w) ≡ 8 → ⊥) → (number_of (finished_of t m a temperature target o w) ≡ 11 → ⊥) → finished_of t m b temperature target o w ≡ finished_of t m a temperature target o w
-        go (Found x k last) n8 n11 =
-            ap (checked_of target o k last)
-            (evaluate_inside a b i t m temperature x (λ e. n8 (refused x k last 8 (evaluate_of t m a temperature x) (λ z. eight z) e)) (λ e. n11 (refused x k last 11 (evaluate_of t m a temperature x) (λ z. eleven z) e)))
-          where
-            eight : ◌≡◌ {A = ℕ} 8 0 → ⊥
-            eight z = omega arith
-
-            eleven : ◌≡◌ {A = ℕ} 11 0 → ⊥
-            eleven z = omega arith
-        go (Failed n value) n8 n11 = refl
+        go (Ok f) n8 n11 =
+            ap (checked_of target o f.trials f.bracket)
+            (evaluate_inside a b i t m temperature f.density (λ e. n8 (refused f.trials f.bracket 8 (evaluate_of t m a temperature f.density) (λ z. omega arith) e)) (λ e. n11 (refused f.trials f.bracket 11 (evaluate_of t m a temperature f.density) (λ z. omega arith) e)))
+        go (Err n) n8 n11 = refl

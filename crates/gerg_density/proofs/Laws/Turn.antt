@@ -7,20 +7,21 @@ use lib.Ieee.{Float}
 use Rattle.gerg_tables.specs.declared.Tables.{Tables}
 use Rattle.gerg_reducing.specs.declared.GergModel.{GergModel}
 use Rattle.gerg.specs.declared.Range.{Range}
+use Rattle.gerg_search.specs.Stop.{refusal_of}
 use Rattle.gerg_search.specs.Steps.{step_of, moved_of}
-use Rattle.gerg_search.specs.Run.{refusal_value}
 use Rattle.gerg_density.specs.Density.{verdict_of}
 use Rattle.gerg_density.specs.Running.{Ready, run_of}
 use Rattle.gerg_search.proofs.Laws.Verdicts.{Fair}
 use Rattle.gerg_search.specs.declared.Options.{Options}
-use Rattle.gerg_search.specs.declared.Sample.{Sample}
+use Rattle.gerg_search.specs.Sample.{Sample}
 use Rattle.gerg_search.specs.declared.Search.{Search}
-use Rattle.gerg_search.specs.declared.Outcome.TheVariants.{Found, Failed}
 use Rattle.gerg_search.specs.declared.Step.{Step}
 use Rattle.gerg_search.specs.declared.Step.TheVariants.{Try, Accepted, Refused}
 use Rattle.gerg_search.proofs.Laws.Ahead.{Ahead, On, steps_left, goes_on, accepts, refuses}
 use Rattle.gerg_search.proofs.Laws.Start.{Begun, begun, target_positive, some_limit}
 use Rattle.gerg_density.proofs.Laws.Verdict.{fair}
+use Rattle.std.specs.Prelude.{Ok, Err}
+use Rattle.gerg_search.specs.declared.Stop.{Stop}
 
 module _ (t : Tables) (m : GergModel) (range : Range) (temperature target : Float) (o : Options) (r : Ready range.pressure_high target o) (s : Search) (a : Ahead o (verdict_of t m range temperature target) s) (y : Sample) (ey : y ≡ verdict_of t m range temperature target s.density) (z : Step) (ez : z ≡ step_of o s y) where
   start : Begun o
@@ -51,10 +52,10 @@ module _ (t : Tables) (m : GergModel) (range : Range) (temperature target : Floa
   pub again : {x : Float} {w : Search} → z ≡ Try x → w ≡ moved_of s y x → Ahead o (verdict_of t m range temperature target) w
   again {x} {w} e q = subst (λ (u : Search). Ahead o (verdict_of t m range temperature target) u) (sym (moves x q)) (on e).ahead
 
-  pub found : {x : Float} → z ≡ Accepted x → Found x s.trials s.bracket ≡ run_of t m range temperature target o
+  pub found : {x : Float} → z ≡ Accepted x → Ok (record { density = x; trials = s.trials; bracket = s.bracket }) ≡ run_of t m range temperature target o
   unfolding run_of
   found e = accepts o (verdict_of t m range temperature target) start is_fair s a (answers e)
 
-  pub failed : {n k : ℕ} → z ≡ Refused n → k ≡ refusal_value n s.trials → Failed n k ≡ run_of t m range temperature target o
+  pub failed : {c : Stop} → z ≡ Refused c → Err (refusal_of c s.trials) ≡ run_of t m range temperature target o
   unfolding run_of
-  failed {n} e q = ap (Failed n) q ∙ refuses o (verdict_of t m range temperature target) start is_fair s a (answers e)
+  failed e = refuses o (verdict_of t m range temperature target) start is_fair s a (answers e)

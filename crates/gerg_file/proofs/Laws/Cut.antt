@@ -8,9 +8,12 @@ use borrow.Author.Tests.{le-leb, ne_eqb}
 use lib.Dec.{leb}
 use lib.ListN.{length, take}
 use lib.Seq.{get_or-take, length-take-le}
-use Rattle.gerg_file.specs.declared.walk.Walk.{Walk}
-use Rattle.gerg_file.specs.declared.walk.Walk.TheVariants.{To, Bad}
-use Rattle.gerg_file.specs.declared.File.TheVariants.{Malformed}
+use Rattle.gerg_file.specs.File.{Walk}
+use Rattle.std.specs.Prelude.{Ok, Err}
+use Rattle.gerg_refusals.specs.declared.Refusal.{Refusal}
+use Rattle.gerg_refusals.specs.declared.Refusal.TheVariants.{File}
+use Rattle.gerg_file.proofs.Filed.{Filed, departures_filed, end_filed}
+use Rattle.gerg_refusals.specs.Refusal.{value_of}
 use Rattle.gerg_file.specs.Kinds as Kinds
 use Rattle.gerg_file.specs.Bytes.{byte, term_count}
 use Rattle.gerg_file.specs.File.{follow, place, chain, counted, numbered, group, component_step, term_row, pair_row, function_step, departure_row, same_at, revision, functions, after_revision, after_components, after_terms, after_pairs, function_count, after_functions, after_departures, at_end, verdict, file_of}
@@ -18,28 +21,32 @@ use Rattle.gerg_file.proofs.WellFormed.{count_at_most}
 use Rattle.gerg_file.proofs.Reach.{room, room_of, room_of_pairs, numbered_place, terms_limited, departures_limited, component_place, term_place, pair_place, function_place, departure_place, revision_place, components_place, terms_place, pairs_place, functions_place, departures_place, end_place}
 
 -- ---- the offset
-verdict_bad : (s : List ℕ) (w : Walk) (at : ℕ) → verdict s w ≡ Malformed at → w ≡ Bad at
+verdict_bad : (s : List ℕ) (w : Walk) (r : Refusal) → verdict s w ≡ Err r → w ≡ Err r
 unfolding verdict
-verdict_bad s (Bad b) at e = cc
-verdict_bad s (To p) at e = absurd (let z : ◌≡◌ {A = ℕ} 0 1 = cc in omega arith)
+verdict_bad s (Err b) r e = cc
+verdict_bad s (Ok p) r e = absurd (let z : ◌≡◌ {A = ℕ} 0 1 = cc in omega arith)
+
+pub malformed_is : (s : List ℕ) (r : Refusal) → file_of s ≡ Err r → r ≡ File (value_of r)
+unfolding file_of
+malformed_is s r e = end_filed s r (verdict_bad s (follow (after_departures s) (at_end s)) r e)
 
 -- "offset of that record, or of the first byte over"
-pub malformed_at_most : (s : List ℕ) (at : ℕ) → file_of s ≡ Malformed at → at ≤ 28377
+pub malformed_at_most : (s : List ℕ) (at : ℕ) → file_of s ≡ Err (File at) → at ≤ 28377
 unfolding file_of
 malformed_at_most s at e =
-    let q : place (follow (after_departures s) (at_end s)) ≡ at = ap place (verdict_bad s (follow (after_departures s) (at_end s)) at e) in
+    let q : place (follow (after_departures s) (at_end s)) ≡ at = ap place (verdict_bad s (follow (after_departures s) (at_end s)) (File at) e) in
     let r = end_place s in
     omega arith
 
 -- ---- walks over two files that agree where the walks look
-step_same : (w : Walk) (f f' : ℕ → Walk) → ((p : ℕ) → w ≡ To p → f p ≡ f' p) → follow w f ≡ follow w f'
-step_same (To p) f f' g = g p refl
-step_same (Bad p) f f' g = refl
+step_same : (w : Walk) (f f' : ℕ → Walk) → ((p : ℕ) → w ≡ Ok p → f p ≡ f' p) → follow w f ≡ follow w f'
+step_same (Ok p) f f' g = g p refl
+step_same (Err r) f f' g = refl
 
-follow_same : (w w' : Walk) (f f' : ℕ → Walk) → w ≡ w' → ((p : ℕ) → w ≡ To p → f p ≡ f' p) → follow w f ≡ follow w' f'
+follow_same : (w w' : Walk) (f f' : ℕ → Walk) → w ≡ w' → ((p : ℕ) → w ≡ Ok p → f p ≡ f' p) → follow w f ≡ follow w' f'
 follow_same w w' f f' e g = step_same w f f' g ∙ ap (λ (w : Walk). follow w f') e
 
-reached : (w : Walk) (p a : ℕ) → w ≡ To p → place w ≤ a → p ≤ a
+reached : (w : Walk) (p a : ℕ) → w ≡ Ok p → place w ≤ a → p ≤ a
 reached w p a e h = let q : place w ≡ p = ap place e in omega arith
 
 module _ (step step' : ℕ → ℕ → Walk) (size : ℕ → ℕ) (last n : ℕ)
@@ -62,15 +69,15 @@ equal_same step step' c last n bound each k i at l h f =
     let q = room_of c k i in chain_same step step' (λ h. c) last n bound each k i at l h (omega arith)
 
 -- the walk of a file that is too long ends with a refusal
-over : (w : Walk) (s : List ℕ) → place w < length s → follow w (at_end s) ≡ Bad (place w)
-over (To p) s h = let e = ne_eqb p (length s) (λ q. omega arith) in rw e
-over (Bad p) s h = refl
+over : (w : Walk) (s : List ℕ) → Filed w → place w < length s → follow w (at_end s) ≡ Err (File (place w))
+over (Ok p) s f h = let e = ne_eqb p (length s) (λ q. omega arith) in rw e
+over (Err r) s f h = ap Err (f r refl)
 
-overlong : (s : List ℕ) → 28378 ≤ length s → file_of s ≡ Malformed (place (after_departures s))
+overlong : (s : List ℕ) → 28378 ≤ length s → file_of s ≡ Err (File (place (after_departures s)))
 unfolding file_of verdict
 overlong s h =
     let r = departures_place s in
-    ap (verdict s) (over (after_departures s) s (omega arith))
+    ap (verdict s) (over (after_departures s) s (departures_filed s) (omega arith))
 
 module _ (s t : List ℕ) (same : (i : ℕ) → i < 28378 → byte s i ≡ byte t i) (ls : 28378 ≤ length s) (lt : 28378 ≤ length t) where
   counts_same : (at : ℕ) → at + 2 ≤ 28378 → term_count s at ≡ term_count t at
@@ -190,8 +197,8 @@ module _ (s t : List ℕ) (same : (i : ℕ) → i < 28378 → byte s i ≡ byte 
 -- a file of more bytes, and its first 28,378: refused at one offset
 pub record Overlong (s : List ℕ) : Type 0 where
   pub at : ℕ
-  pub whole : file_of s ≡ Malformed at
-  pub cut : file_of (take 28378 s) ≡ Malformed at
+  pub whole : file_of s ≡ Err (File at)
+  pub cut : file_of (take 28378 s) ≡ Err (File at)
 
 pub cut_file : (s : List ℕ) → 28378 ≤ length s → Overlong s
 cut_file s h =
@@ -200,5 +207,5 @@ cut_file s h =
     record {
       at = place (after_departures s);
       whole = overlong s h;
-      cut = overlong (take 28378 s) (omega arith) ∙ ap (λ (w : Walk). Malformed (place w)) (sym e);
+      cut = overlong (take 28378 s) (omega arith) ∙ ap (λ (w : Walk). Err (File (place w))) (sym e);
     }

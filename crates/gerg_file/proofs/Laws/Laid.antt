@@ -6,8 +6,7 @@ use Prim.Native.Nat.{ℕ, suc, ◌+◌, ◌-◌, ◌*◌, ◌≤◌, ◌<◌}
 use native.Mathlib.Omega.{arith}
 use borrow.Author.Tests.{ltb-true, ltb-false, lt-ltb, le-ltb}
 use lib.Dec.{ltb}
-use Rattle.gerg_file.specs.declared.walk.Walk.TheVariants.{To}
-use Rattle.gerg_file.specs.declared.File.TheVariants.{WellFormed}
+use Rattle.std.specs.Prelude.{Ok}
 use Rattle.gerg_file.specs.declared.Layout.{Layout}
 use Rattle.gerg_file.specs.Kinds as Kinds
 use Rattle.gerg_file.specs.Bytes.{term_count}
@@ -17,14 +16,14 @@ use Rattle.gerg_file.specs.Counts.{sum, terms_of, departures_of}
 use Rattle.gerg_file.proofs.WellFormed.{components_walk, terms_walk, pairs_walk, functions_walk, departures_walk, terms_limit, count_limit, departures_limit, length_is}
 use Rattle.gerg_file.proofs.Places.{sum_below, sum_tail, sum_grows, chain_end, run_end, counted_end, groups_end}
 
-pub pair_size : (s : List ℕ) (i at p : ℕ) → pair_row s i at ≡ To p → p ≡ at + (Kinds.pair).size * (22 - i)
+pub pair_size : (s : List ℕ) (i at p : ℕ) → pair_row s i at ≡ Ok p → p ≡ at + (Kinds.pair).size * (22 - i)
 pair_size s i at p e = run_end s _ _ i (22 - i) i at p e
 
 all_pairs : sum (λ h. (Kinds.pair).size * (22 - (1 + h))) 21 ≡ (Kinds.pair).size * 231
 unfolding sum
 all_pairs = refl
 
-module _ (s : List ℕ) (l : Layout) (e : file_of s ≡ WellFormed l) where
+module _ (s : List ℕ) (l : Layout) (e : file_of s ≡ Ok l) where
   within : (a b c : ℕ) → a ≡ b → term_count s b ≤ c → term_count s a ≤ c
   within a b c q h = rw q h
 

@@ -3,7 +3,7 @@ use mathlib.Core.Path.{◌≡◌, refl}
 use mathlib.Core.List.{List}
 use Prim.Native.Nat.{ℕ, zero, suc, ◌+◌, ◌-◌, ◌*◌, ◌≤◌, ◌<◌}
 use native.Mathlib.Omega.{arith}
-use Rattle.gerg_file.specs.declared.File.TheVariants.{WellFormed}
+use Rattle.std.specs.Prelude.{Ok}
 use Rattle.gerg_file.specs.declared.Layout.{Layout}
 use Rattle.gerg_file.specs.Kinds as Kinds
 use Rattle.gerg_file.specs.Bytes.{term_count}
@@ -24,7 +24,7 @@ rows (suc i) h = let a = rows i (omega arith) in omega arith
 moved : (s : List ℕ) (kind lead : ℕ) {n m a b : ℕ} → n ≡ m → a ≡ b → Stands s kind lead n a → Stands s kind lead m b
 moved s kind lead x y r = rw (x, y) at r
 
-module _ (s : List ℕ) (l : Layout) (e : file_of s ≡ WellFormed l) where
+module _ (s : List ℕ) (l : Layout) (e : file_of s ≡ Ok l) where
   -- record (3, i + 1, k + 1)
   pub term_stands : (i k : ℕ) → i < 21 → k < terms_of s i → Stands s (Kinds.term).kind (1 + i) (1 + k) (term_record s l i k)
   unfolding terms_of

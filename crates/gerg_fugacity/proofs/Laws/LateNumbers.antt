@@ -11,19 +11,20 @@ use Rattle.gerg_reducing.specs.declared.GergModel.{GergModel}
 use Rattle.gerg_model.specs.Mixture.{all_finite}
 use Rattle.gerg.specs.declared.GergState.{GergState}
 use Rattle.gerg.proofs.Laws.LateNumbers.{Late, late_none, late_row}
-use Rattle.gerg_fugacity.specs.declared.fugacity.FugacityCheck.TheVariants.{Sound, Refused}
 use Rattle.gerg_fugacity.specs.Fugacity.{ln_phis, fugacity_of}
-use Rattle.gerg_fugacity.specs.FugacityNumbers.{number_of, value_of}
+use Rattle.gerg_refusals.specs.Answer.{number_of, value_of, passed}
+use Rattle.std.specs.Prelude.{Err}
+use Rattle.gerg_refusals.specs.declared.Refusal.TheVariants as refusal
 
-number_of_lem : (b : Bool) → Late 12 (number_of (pick b Sound (Refused 12 0)))
+number_of_lem : (b : Bool) → Late 12 (number_of (pick b passed (Err refusal.NotFinite)))
 number_of_lem true = late_none 12
 number_of_lem false = late_row 12 12 (omega arith) (omega arith)
 
-value_of_lem : (b : Bool) → value_of (pick b Sound (Refused 12 0)) ≡ 0
+value_of_lem : (b : Bool) → value_of (pick b passed (Err refusal.NotFinite)) ≡ 0
 value_of_lem true = refl
 value_of_lem false = refl
 
-sound_of : (b : Bool) → number_of (pick b Sound (Refused 12 0)) ≡ 0 → pick b Sound (Refused 12 0) ≡ Sound
+sound_of : (b : Bool) → number_of (pick b passed (Err refusal.NotFinite)) ≡ 0 → pick b passed (Err refusal.NotFinite) ≡ passed
 sound_of true e = refl
 sound_of false e = absurd (twelve e)
   where
@@ -40,6 +41,6 @@ module _ (t : Tables) (m : GergModel) (gradients : List (List Float)) (s : GergS
   fugacity_value_0 = value_of_lem (all_finite (ln_phis t m gradients s T rho) m.components)
 
   -- number 0 is no refusal's
-  pub fugacity_accepted : number_of (fugacity_of t m gradients s T rho) ≡ 0 → fugacity_of t m gradients s T rho ≡ Sound
+  pub fugacity_accepted : number_of (fugacity_of t m gradients s T rho) ≡ 0 → fugacity_of t m gradients s T rho ≡ passed
   unfolding fugacity_of
   fugacity_accepted = sound_of (all_finite (ln_phis t m gradients s T rho) m.components)

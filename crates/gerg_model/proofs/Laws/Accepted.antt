@@ -8,25 +8,26 @@ use borrow.Author.Tests.{ltb-false, leb-true, leb-false, eqb-false, eqb-true}
 use lib.Dec.{leb, ltb, eqb}
 use lib.Ieee.{Float}
 use lib.ListN.{length, get_or, set, replicate}
+use Rattle.std.proofs.Common.{Result, Ok, Err}
 use Rattle.numerics.specs.Double.{pick}
 use Rattle.numerics.specs.Iterate.{iter}
 use Rattle.numerics.specs.Tests.{or_false}
+use Rattle.gerg_refusals.specs.declared.Refusal.{Refusal}
+use Rattle.gerg_refusals.specs.declared.Refusal.TheVariants.{Components, Fractions}
 use Rattle.gerg_model.specs.MixtureCheck.{first_place, bad_number, bad_fraction, adds_up, check_of}
 use Rattle.gerg_model.specs.Accepted.{KnownList, Accepted}
 use Rattle.gerg_model.specs.Mixture.{indices_of, model_of}
 use Rattle.gerg_reducing.specs.Listed.{Listed}
 use Rattle.gerg_model.proofs.Laws.First.{first_passed}
-use Rattle.gerg_model.specs.declared.mixture.MixtureCheck.{MixtureCheck}
-use Rattle.gerg_model.specs.declared.mixture.MixtureCheck.TheVariants.{Sound, Refused}
 
--- the tests that were passed on the way to Sound
+-- the tests that were passed on the way to Ok
 sound_tests :
-    (a b c : Bool) (place n : ℕ) (rest : MixtureCheck) →
-    pick a (Refused 3 0) (pick b (Refused 3 place) (pick (not c) (Refused 4 n) rest)) ≡ Sound → (b ≡ false) × (c ≡ true)
-sound_tests true b c place n rest e = absurd (let y : ◌≡◌ {A = ℕ} 0 1 = cc in omega arith)
-sound_tests false true c place n rest e = absurd (let y : ◌≡◌ {A = ℕ} 0 1 = cc in omega arith)
+    (a b c : Bool) (place n : ℕ) (rest : Result (Unit {0}) Refusal) →
+    pick a (Err (Components 0)) (pick b (Err (Components place)) (pick (not c) (Err (Fractions n)) rest)) ≡ Ok tt → (b ≡ false) × (c ≡ true)
+sound_tests true b c place n rest e = cc
+sound_tests false true c place n rest e = cc
 sound_tests false false true place n rest e = (refl, refl)
-sound_tests false false false place n rest e = absurd (let y : ◌≡◌ {A = ℕ} 0 1 = cc in omega arith)
+sound_tests false false false place n rest e = cc
 
 module _ (list : List ℕ) (good : (k : ℕ) → k < length list → bad_number list k ≡ false) where
   at : (k : ℕ) → k < length list → (k < 21) × (0 < get_or list k 0) × (get_or list k 0 ≤ 21)
@@ -49,14 +50,14 @@ module _ (list : List ℕ) (good : (k : ℕ) → k < length list → bad_number 
   pub known_list : KnownList list
   known_list = record { few = few_of (leb (length list) 21) refl; known = λ k h. ((at k h).1, (at k h).2) }
 
--- what `check_mixture` answers Sound of
-pub accepted : (list : List ℕ) (fractions : List Float) → check_of list fractions ≡ Sound → Accepted list fractions
+-- what `check_mixture` answers Ok of
+pub accepted : (list : List ℕ) (fractions : List Float) → check_of list fractions ≡ Ok tt → Accepted list fractions
 unfolding check_of
 accepted list fractions e =
     let number = first_place (bad_number list) (length list) 0 in
     let fraction = first_place (bad_fraction fractions) (length fractions) 0 in
     let tests = sound_tests (eqb (length list) 0) (ltb number (length list)) (eqb (length fractions) (length list)) number (length list)
-    (pick (ltb fraction (length fractions)) (Refused 4 fraction) (pick (adds_up fractions) Sound (Refused 4 (length list)))) e in
+    (pick (ltb fraction (length fractions)) (Err (Fractions fraction)) (pick (adds_up fractions) (Ok tt) (Err (Fractions (length list))))) e in
     record {
       listed = known_list list (λ k h. first_passed (bad_number list) (length list) k (ltb-false number (length list) tests.0) h);
       paired = eqb-true (length fractions) (length list) tests.1;

@@ -8,15 +8,18 @@ use borrow.Author.Tests.{ltb-true, ltb-false, leb-true, leb-false, eqb-true}
 use lib.Dec.{leb, ltb, eqb}
 use lib.Ieee.{Float}
 use lib.ListN.{length}
+use Rattle.std.proofs.Common.{Ok, Err}
 use Rattle.numerics.specs.Double.{pick}
+use Rattle.gerg_refusals.specs.Answer.{number_of, value_of}
+use Rattle.gerg_refusals.specs.Refusal as of_refusal
+use Rattle.gerg_refusals.specs.declared.Refusal.{Refusal}
+use Rattle.gerg_refusals.specs.declared.Refusal.TheVariants.{Components, Fractions}
 use Rattle.gerg_model.specs.MixtureCheck.{first_place, bad_number, bad_fraction, adds_up, check_of}
-use Rattle.gerg_model.specs.MixtureNumbers.{number_of, value_of}
-use Rattle.gerg_model.specs.declared.mixture.MixtureCheck.TheVariants.{Sound, Refused}
 use Rattle.gerg_model.proofs.Laws.First.{first_passed, first_at_most}
 use Rattle.gerg_model.proofs.Laws.Accepted.{known_list}
 
 rows_3_and_4 : (a b c d e : Bool) (place n fraction : ℕ) →
-    number_of (pick a (Refused 3 0) (pick b (Refused 3 place) (pick (not c) (Refused 4 n) (pick d (Refused 4 fraction) (pick e Sound (Refused 4 n)))))) ≤ 4
+    number_of (pick a (Err (Components 0)) (pick b (Err (Components place)) (pick (not c) (Err (Fractions n)) (pick d (Err (Fractions fraction)) (pick e (Ok (tt {0})) (Err (Fractions n))))))) ≤ 4
 rows_3_and_4 true b c d e place n fraction = omega arith
 rows_3_and_4 false true c d e place n fraction = omega arith
 rows_3_and_4 false false false d e place n fraction = omega arith
@@ -31,26 +34,26 @@ mixture_at_most_4 list fractions =
     let fraction = first_place (bad_fraction fractions) (length fractions) 0 in
     rows_3_and_4 (eqb (length list) 0) (ltb number (length list)) (eqb (length fractions) (length list)) (ltb fraction (length fractions)) (adds_up fractions) number (length list) fraction
 
-refused_from_3 : (a b c d e : Bool) (place n fraction number value : ℕ) →
-    pick a (Refused 3 0) (pick b (Refused 3 place) (pick (not c) (Refused 4 n) (pick d (Refused 4 fraction) (pick e Sound (Refused 4 n))))) ≡ Refused number value → 3 ≤ number
-refused_from_3 true b c d e place n fraction number value q = let z : 3 ≡ number = cc in omega arith
-refused_from_3 false true c d e place n fraction number value q = let z : 3 ≡ number = cc in omega arith
-refused_from_3 false false false d e place n fraction number value q = let z : 4 ≡ number = cc in omega arith
-refused_from_3 false false true true e place n fraction number value q = let z : 4 ≡ number = cc in omega arith
-refused_from_3 false false true false true place n fraction number value q = absurd (let z : ◌≡◌ {A = ℕ} 0 1 = cc in omega arith)
-refused_from_3 false false true false false place n fraction number value q = let z : 4 ≡ number = cc in omega arith
+refused_from_3 : (a b c d e : Bool) (place n fraction : ℕ) (r : Refusal) →
+    pick a (Err (Components 0)) (pick b (Err (Components place)) (pick (not c) (Err (Fractions n)) (pick d (Err (Fractions fraction)) (pick e (Ok (tt {0})) (Err (Fractions n)))))) ≡ Err r → 3 ≤ of_refusal.number_of r
+refused_from_3 true b c d e place n fraction r q = let z : Components 0 ≡ r = cc in rw (← z) (omega arith)
+refused_from_3 false true c d e place n fraction r q = let z : Components place ≡ r = cc in rw (← z) (omega arith)
+refused_from_3 false false false d e place n fraction r q = let z : Fractions n ≡ r = cc in rw (← z) (omega arith)
+refused_from_3 false false true true e place n fraction r q = let z : Fractions fraction ≡ r = cc in rw (← z) (omega arith)
+refused_from_3 false false true false true place n fraction r q = cc
+refused_from_3 false false true false false place n fraction r q = let z : Fractions n ≡ r = cc in rw (← z) (omega arith)
 
--- a refusal has a number of its own: 0 is for a list and fractions that passed
-pub mixture_refused : (list : List ℕ) (fractions : List Float) (number value : ℕ) → check_of list fractions ≡ Refused number value → 3 ≤ number
+-- a refusal is one of rows 3 and 4
+pub mixture_refused : (list : List ℕ) (fractions : List Float) (r : Refusal) → check_of list fractions ≡ Err r → 3 ≤ of_refusal.number_of r
 unfolding check_of
-mixture_refused list fractions number value q =
+mixture_refused list fractions r q =
     let place = first_place (bad_number list) (length list) 0 in
     let fraction = first_place (bad_fraction fractions) (length fractions) 0 in
     refused_from_3 (eqb (length list) 0) (ltb place (length list)) (eqb (length fractions) (length list)) (ltb fraction (length fractions)) (adds_up fractions)
-    place (length list) fraction number value q
+    place (length list) fraction r q
 
 values : (a b c d e : Bool) (place n fraction : ℕ) → (b ≡ true → place ≤ 21) → (b ≡ false → n ≤ 21) → (b ≡ false → c ≡ true → d ≡ true → fraction ≤ 21) →
-    value_of (pick a (Refused 3 0) (pick b (Refused 3 place) (pick (not c) (Refused 4 n) (pick d (Refused 4 fraction) (pick e Sound (Refused 4 n)))))) ≤ 21
+    value_of (pick a (Err (Components 0)) (pick b (Err (Components place)) (pick (not c) (Err (Fractions n)) (pick d (Err (Fractions fraction)) (pick e (Ok (tt {0})) (Err (Fractions n))))))) ≤ 21
 values true b c d e place n fraction p l f = omega arith
 values false true c d e place n fraction p l f = p refl
 values false false false d e place n fraction p l f = l refl

@@ -1,6 +1,6 @@
 -- The ends of a search that tries a temperature between them: two doubles between 230 and 350 K that rise. Assumes nothing.
 use mathlib.Core.Path.{◌≡◌, refl, sym, ap, ◌∙◌, subst}
-use mathlib.Core.Bool.{Bool, true, false, false≢true}
+use mathlib.Core.Bool.{Bool, true, false}
 use mathlib.Core.List.{List}
 use Prim.Native.Nat.{ℕ, ◌*◌, ◌^◌, ◌≤◌}
 use native.Mathlib.Nat.{mul-one}
@@ -9,33 +9,38 @@ use lib.Dec.{T}
 use lib.Ieee.{Float, fin, binary64, fits, of_bits, le}
 use lib.Ieee.Bits.{of_bits-fits}
 use lib.Ieee.Positive.{positive, between}
+use Rattle.std.specs.Prelude.{Err}
 use Rattle.numerics.specs.Double.{bits, pick}
 use Rattle.numerics.specs.Spacing.{unit, count, counted, Good, lt→count, le→count}
 use Rattle.gerg_tables.specs.declared.Tables.{Tables}
 use Rattle.gerg_reducing.specs.declared.GergModel.{GergModel}
 use Rattle.gerg.specs.declared.Range.{Range}
+use Rattle.gerg_refusals.specs.declared.Refusal.{Refusal}
+use Rattle.gerg_refusals.specs.declared.Refusal.TheVariants as refusal
 use Rattle.gerg_root_list.specs.RootList.{beyond_five, within_envelope}
 use Rattle.gerg_flash.specs.Roots.{searched_of}
 use Rattle.gerg_root_list.proofs.Laws.Envelope.{envelope_low, envelope_high}
 use Rattle.gerg_saturation.specs.Checks.{positive_place, refused_by}
-use Rattle.gerg_saturation.specs.Coexistence.{verdict_of}
+use Rattle.gerg_saturation.specs.Answer.{Sample}
+use Rattle.gerg_saturation.specs.Coexistence.{tried_of}
 use Rattle.gerg_ph.specs.Sampling.{roots_sample, sample_of}
 use Rattle.gerg_saturation.specs.Halvings.{encloses}
 use Rattle.gerg_ph.specs.Saturation.{verdict_at}
-use Rattle.gerg_saturation.specs.declared.Sample.{Sample}
-use Rattle.gerg_saturation.specs.declared.Sample.TheVariants as sampled
 use Rattle.gerg_saturation.proofs.Laws.Halved.{Within}
-use Rattle.gerg_saturation.proofs.Laws.Verdicts.{is_apart, enclosing, rising, verdict_refused}
+use Rattle.gerg_saturation.proofs.Laws.Verdicts.{is_apart, enclosing, rising, refused_tried}
 
 -- a temperature that is not refused has passed row 21
 inside_envelope : (t : Tables) (m : GergModel) (gradients : List (List Float)) (range : Range) (pressure x : Float) → is_apart (verdict_at t m gradients range pressure x) ≡ true → within_envelope x pressure ≡ true
 unfolding verdict_at sample_of
 inside_envelope t m gradients range pressure x = go (beyond_five m) (within_envelope x pressure) (roots_sample m.reducing_density (positive_place m) x pressure (searched_of t m gradients range x pressure))
   where
-    go : (a b : Bool) (s : Sample) → is_apart (verdict_of (pick a (sampled.Refused 20) (pick b s (sampled.Refused 21)))) ≡ true → b ≡ true
-    go true b s e = absurd (false≢true (sym (ap is_apart (verdict_refused 20)) ∙ e))
+    refused : (r : Refusal) (b : Bool) → is_apart (tried_of (Err r)) ≡ true → b ≡ true
+    refused r b e = let f : is_apart (tried_of (Err r)) ≡ false = ap is_apart (refused_tried r) in cc
+
+    go : (a b : Bool) (s : Sample) → is_apart (tried_of (pick a (Err refusal.BeyondFive) (pick b s (Err refusal.OutsideEnvelope)))) ≡ true → b ≡ true
+    go true b s e = refused refusal.BeyondFive b e
     go false true s e = refl
-    go false false s e = absurd (false≢true (sym (ap is_apart (verdict_refused 21)) ∙ e))
+    go false false s e = refused refusal.OutsideEnvelope false e
 
 -- ---- 230 and 350 K
 low_is : bits 0x406c_c000_0000_0000 ≡ fin false 115 (pos 1)

@@ -1,43 +1,53 @@
 -- At most as many roots are kept as a scan found. Assumes nothing.
 use mathlib.Core.Bool.{Bool, true, false, ◌&&◌}
-use mathlib.Core.List.{[]}
-use Prim.Native.Nat.{◌+◌, ◌≤◌, zero-le}
+use mathlib.Core.List.{List, []}
+use Prim.Native.Nat.{ℕ, suc, ◌+◌, ◌≤◌}
+use native.Mathlib.Nat.{le_trans}
 use native.Mathlib.Omega.{arith}
-use lib.Dec.{eqb}
-use lib.Ieee.{Float, nan, lt}
+use lib.Ieee.{Float, lt}
 use lib.ListN.{length, get_or}
+use Rattle.std.specs.Prelude.{Result, Ok, Err, IfOk}
 use Rattle.numerics.specs.Double.{pick}
-use Rattle.numerics.specs.Growing.{iter_grows, one_more, none_more}
-use Rattle.gerg_scan_steps.specs.Scan.{Scanned}
-use Rattle.gerg_root_list.specs.RootList.{Outcome, found, stopped, Kept, stopped_by, joined_by, limit_of, keep_step, kept_of, found_of}
+use Rattle.numerics.specs.Growing.{one_more, none_more}
+use Rattle.gerg_refusals.specs.declared.Refusal.{Refusal}
+use Rattle.gerg_refusals.specs.declared.Refusal.TheVariants as refusal
+use Rattle.gerg_scan_steps.proofs.Laws.Answers.{steps_keep}
+use Rattle.gerg_scan_steps.specs.declared.Point.{Point}
+use Rattle.gerg_scan_steps.specs.declared.Scan.{Scan}
+use Rattle.gerg_root_list.specs.RootList.{Outcome, Kept, joined_by, limit_of, keep_step, no_point, kept_of, found_of}
+use Rattle.gerg_root_list.specs.declared.Root.{Root}
 
 module _ (root : Float → Outcome) (target : Float) where
-  joined_more : (o : Outcome) (k : Kept) → length (joined_by o k).heads ≤ length k.heads + 1
+  joined_more : (o : Outcome) (k : List Root) → IfOk (joined_by o k) (λ r. length r ≤ length k + 1)
   unfolding joined_by
-  joined_more (found head coefficients) k = one_more k.heads head
-  joined_more (stopped n) k = none_more (length k.heads)
+  joined_more (Ok g) k = one_more k g
+  joined_more (Err r) k = tt
 
-  keep_more : (first last density residual : Float) (k : Kept) → length (keep_step root target first last density residual k).heads ≤ length k.heads + 1
+  -- a step keeps one root at most
+  pub keep_more : (first last : Float) (p : Point) (k : List Root) → IfOk (keep_step root target first last p k) (λ r. length r ≤ length k + 1)
   unfolding keep_step
-  keep_more first last density residual k = go (eqb k.refused 0) (lt first density && lt density last) (lt (limit_of target) residual)
+  keep_more first last p k = go (lt first p.density && lt p.density last) (lt (limit_of target) p.residual)
     where
-      go : (a b c : Bool) → length (pick a (pick b k (pick c (stopped_by 22 k) (joined_by (root density) k))) k).heads ≤ length k.heads + 1
-      go true true c = none_more (length k.heads)
-      go true false true = none_more (length k.heads)
-      go true false false = joined_more (root density) k
-      go false b c = none_more (length k.heads)
+      go : (a b : Bool) → IfOk (pick a (Ok k) (pick b (Err refusal.RootNotConverged) (joined_by (root p.density) k))) (λ r. length r ≤ length k + 1)
+      go true b = none_more (length k)
+      go false true = tt
+      go false false = joined_more (root p.density) k
 
-  kept_few : (s : Scanned) → length (kept_of root target s).heads ≤ length s.densities
+  pub kept_few : (s : Scan) → IfOk (kept_of root target s) (λ k. length k ≤ length s.roots.items)
   unfolding kept_of
   kept_few s =
-      let g = iter_grows (λ (k : Kept). length k.heads) (λ i. keep_step root target s.first_negative s.last_negative (get_or s.densities i nan) (get_or s.residuals i nan)) (record { heads = []; coefficients = []; refused = 0 })
-      (λ i k. keep_more s.first_negative s.last_negative (get_or s.densities i nan) (get_or s.residuals i nan) k) (length s.densities) in
-      omega (arith, g)
-
-  pub found_few : (s : Scanned) → length (found_of root target s).heads ≤ length s.densities
-  unfolding found_of
-  found_few s = go (eqb s.refused 0)
+      steps_keep (λ i k. length k ≤ i) (λ r. Unit {0}) (λ i. keep_step root target s.first_negative s.last_negative (get_or s.roots.items i no_point)) (length s.roots.items) (Ok []) (omega arith)
+      (λ i k l h. more i k h (keep_step root target s.first_negative s.last_negative (get_or s.roots.items i no_point) k) (keep_more s.first_negative s.last_negative (get_or s.roots.items i no_point) k))
     where
-      go : (b : Bool) → length (pick b (kept_of root target s) (record { heads = []; coefficients = []; refused = s.refused })).heads ≤ length s.densities
-      go true = kept_few s
-      go false = zero-le
+      more : (i : ℕ) (k : List Root) → length k ≤ i → (x : Kept) → IfOk x (λ r. length r ≤ length k + 1) → IfOk x (λ r. length r ≤ suc i)
+      more i k h (Ok r) g = omega arith
+      more i k h (Err r) g = tt
+
+  pub found_few : (n : ℕ) (s : Result Scan Refusal) → IfOk s (λ t. length t.roots.items ≤ n) → IfOk (found_of root target s) (λ k. length k ≤ n)
+  unfolding found_of
+  found_few n (Ok s) h = go (kept_of root target s) (kept_few s)
+    where
+      go : (k : Kept) → IfOk k (λ r. length r ≤ length s.roots.items) → IfOk k (λ r. length r ≤ n)
+      go (Ok r) g = le_trans g h
+      go (Err r) g = tt
+  found_few n (Err r) h = tt

@@ -1,62 +1,33 @@
 -- By what numbers the roots that are kept are refused, and the answer. Assumes nothing.
-use mathlib.Core.Bool.{Bool, true, false, ◌&&◌}
-use mathlib.Core.List.{[]}
 use Prim.Native.Nat.{ℕ, ◌≤◌, zero-le}
 use native.Mathlib.Nat.{le_trans}
-use lib.Dec.{eqb, ltb, lit≤}
-use lib.Ieee.{Float, nan, lt}
-use lib.ListN.{length, get_or}
-use Rattle.numerics.specs.Double.{pick}
-use Rattle.numerics.specs.Growing.{iter_keeps}
+use lib.Dec.{lit≤}
+use lib.Ieee.{Float}
+use Rattle.std.specs.Prelude.{Result, Ok, Err, IfErr}
+use Rattle.gerg_refusals.specs.Answer.{number_of}
+use Rattle.gerg_refusals.specs.Refusal as of_refusal
+use Rattle.gerg_refusals.specs.declared.Refusal.{Refusal}
 use Rattle.gerg_reducing.specs.declared.GergModel.{GergModel}
-use Rattle.gerg_scan_steps.specs.Scan.{Scanned}
+use Rattle.gerg_scan_steps.specs.declared.Scan.{Scan}
 use Rattle.gerg_root_list.specs.RootList as is
-use Rattle.gerg_root_list.specs.RootsNumbers.{number_of}
-use Rattle.gerg_root_list.specs.declared.RootsAnswer.TheVariants.{Roots, Refused}
+use Rattle.gerg_root_list.proofs.Laws.KeptRefusals.{found_refusal, answer_refusal}
 
--- ---- the number of a refusal, or 0
-abbrev pub of_outcome : is.Outcome → ℕ
-of_outcome (is.found head coefficients) = 0
-of_outcome (is.stopped n) = n
+module _ {A : Type 0} (P : ℕ → Type 0) (none : P 0) where
+  -- an answer's number is 0 or its refusal's
+  of_answer : (a : Result A Refusal) → IfErr a (λ r. P (of_refusal.number_of r)) → P (number_of a)
+  of_answer (Ok x) h = none
+  of_answer (Err r) h = h
 
--- ---- the roots that are kept: row 22 besides
-module _ (root : Float → is.Outcome) (few : (x : Float) → of_outcome (root x) ≤ 22) where
-  joined_number : (o : is.Outcome) (k : is.Kept) → of_outcome o ≤ 22 → k.refused ≤ 22 → (is.joined_by o k).refused ≤ 22
-  unfolding is.joined_by
-  joined_number (is.found head coefficients) k p q = q
-  joined_number (is.stopped n) k p q = p
+of_number : {A : Type 0} (P : ℕ → Type 0) (a : Result A Refusal) → P (number_of a) → IfErr a (λ r. P (of_refusal.number_of r))
+of_number P (Ok x) h = tt
+of_number P (Err r) h = h
 
-  kept_step_number : (target first last density residual : Float) (k : is.Kept) → k.refused ≤ 22 → (is.keep_step root target first last density residual k).refused ≤ 22
-  unfolding is.keep_step
-  kept_step_number target first last density residual k p = go (eqb k.refused 0) (lt first density && lt density last) (lt (is.limit_of target) residual)
-    where
-      go : (a b c : Bool) → (pick a (pick b k (pick c (is.stopped_by 22 k) (is.joined_by (root density) k))) k).refused ≤ 22
-      go true true c = p
-      go true false true = lit≤ tt
-      go true false false = joined_number (root density) k (few density) p
-      go false b c = p
+-- the roots that are kept: row 22 besides
+pub found_number : (root : Float → is.Outcome) (few : (x : Float) → number_of (root x) ≤ 22) (target : Float) (s : Result Scan Refusal) → number_of s ≤ 22 → number_of (is.found_of root target s) ≤ 22
+found_number root few target s p =
+    of_answer (λ n. n ≤ 22) zero-le _ (found_refusal (λ r. of_refusal.number_of r ≤ 22) (lit≤ tt) root (λ x. of_number (λ n. n ≤ 22) (root x) (few x)) target s (of_number (λ n. n ≤ 22) s p))
 
-  kept_number : (target : Float) (s : Scanned) → (is.kept_of root target s).refused ≤ 22
-  unfolding is.kept_of
-  kept_number target s =
-      iter_keeps (λ (k : is.Kept). k.refused ≤ 22) (λ i. is.keep_step root target s.first_negative s.last_negative (get_or s.densities i nan) (get_or s.residuals i nan)) (record { heads = []; coefficients = []; refused = 0 }) zero-le
-      (λ i k p. kept_step_number target s.first_negative s.last_negative (get_or s.densities i nan) (get_or s.residuals i nan) k p) (length s.densities)
-
-  pub found_number : (target : Float) (s : Scanned) → s.refused ≤ 22 → (is.found_of root target s).refused ≤ 22
-  unfolding is.found_of
-  found_number target s p = go (eqb s.refused 0)
-    where
-      go : (q : Bool) → (pick q (is.kept_of root target s) (record { heads = []; coefficients = []; refused = s.refused })).refused ≤ 22
-      go true = kept_number target s
-      go false = p
-
--- ---- and the answer by a number at most 24
-pub answer_number : (m : GergModel) (lent : ℕ) (k : is.Kept) → k.refused ≤ 22 → number_of (is.answer_of m lent k) ≤ 24
-unfolding is.answer_of
-answer_number m lent k p = go (eqb k.refused 0) (eqb (length k.heads) 0) (ltb lent (is.needed m k))
-  where
-    go : (a b c : Bool) → number_of (pick a (pick b (Refused 23 0) (pick c (Refused 24 (is.needed m k)) (Roots (length k.heads)))) (Refused k.refused 0)) ≤ 24
-    go true true c = lit≤ tt
-    go true false true = lit≤ tt
-    go true false false = zero-le
-    go false b c = le_trans p (lit≤ tt)
+-- and the answer by a number at most 24
+pub answer_number : (m : GergModel) (lent : ℕ) (k : is.Kept) → number_of k ≤ 22 → number_of (is.answer_of m lent k) ≤ 24
+answer_number m lent k p =
+    of_answer (λ n. n ≤ 24) zero-le _ (answer_refusal (λ r. of_refusal.number_of r ≤ 24) (lit≤ tt) m lent k (lit≤ tt) (of_number (λ n. n ≤ 24) k (le_trans p (lit≤ tt))))

@@ -2,8 +2,9 @@
 use mathlib.Core.List.{List, [], ◌∷◌}
 use lib.Ieee.{Float, nan}
 use lib.ListN.{get_or}
+use Rattle.gerg_root_list.specs.declared.Root.{Root}
 
 -- of each root the density, its first number
-unfoldable pub root_list : List (List Float) → List Float
+unfoldable pub root_list : List Root → List Float
 root_list [] = []
-root_list (head ∷ heads) = get_or head 0 nan ∷ root_list heads
+root_list (root ∷ roots) = get_or root.head 0 nan ∷ root_list roots

@@ -7,13 +7,14 @@ use native.Mathlib.Nat.{le_trans, pow-suc}
 use native.Mathlib.Omega.{arith}
 use lib.Ieee.{Float}
 use lib.ListN.{length}
+use Rattle.std.specs.Prelude.{Ok, Err}
 use Rattle.numerics.specs.Frac.{big}
 use Rattle.numerics.specs.Double.{pick}
 use Rattle.numerics.specs.Spacing.{unit, unit_pos, count}
+use Rattle.gerg_saturation.specs.Answer.{Tried}
 use Rattle.gerg_saturation.specs.Halvings.{middle_of, between_of, on_end, narrowed_of, onward, encloses, trials_from, trials_of}
 use Rattle.gerg_saturation.specs.declared.Interval.{Interval}
-use Rattle.gerg_saturation.specs.declared.Verdict.{Verdict}
-use Rattle.gerg_saturation.specs.declared.Verdict.TheVariants.{Accepted, Apart, Refused}
+use Rattle.gerg_saturation.specs.declared.Verdict.TheVariants.{Accepted, Apart}
 use Rattle.gerg_saturation.proofs.Laws.Halved.{Within, width, inside, outside, wide, Halved, halved}
 
 -- ---- numbers: a is the width before a trial and c the one after it, in parts of 2 ^ -53 of u
@@ -30,23 +31,23 @@ start : (l h u : ℕ) → 0 < u → 230 * u ≤ l → h ≤ 350 * u → (h - l) 
 unfolding big
 start l h u p a b = omega arith
 
-module _ (v : Float → Verdict) where
+module _ (v : Float → Tried) where
   -- ---- what follows the middle
-  rest_none : (n : ℕ) (b : Interval) (w : Verdict) → on_end b (middle_of b) ≡ true → length (onward b (middle_of b) w (λ c. trials_from v n c) []) ≤ 0
+  rest_none : (n : ℕ) (b : Interval) (w : Tried) → on_end b (middle_of b) ≡ true → length (onward b (middle_of b) w (λ c. trials_from v n c) []) ≤ 0
   unfolding onward
-  rest_none n b (Accepted s) e = zero-le
-  rest_none n b (Apart d) e = rw e zero-le
-  rest_none n b (Refused m) e = zero-le
+  rest_none n b (Ok (Accepted s)) e = zero-le
+  rest_none n b (Ok (Apart d)) e = rw e zero-le
+  rest_none n b (Err r) e = zero-le
 
-  rest_few : (n k : ℕ) (b : Interval) (w : Verdict) → ((d : Float) → length (trials_from v n (narrowed_of b (middle_of b) d)) ≤ k) → length (onward b (middle_of b) w (λ c. trials_from v n c) []) ≤ k
+  rest_few : (n k : ℕ) (b : Interval) (w : Tried) → ((d : Float) → length (trials_from v n (narrowed_of b (middle_of b) d)) ≤ k) → length (onward b (middle_of b) w (λ c. trials_from v n c) []) ≤ k
   unfolding onward
-  rest_few n k b (Accepted s) h = zero-le
-  rest_few n k b (Apart d) h = go (on_end b (middle_of b))
+  rest_few n k b (Ok (Accepted s)) h = zero-le
+  rest_few n k b (Ok (Apart d)) h = go (on_end b (middle_of b))
     where
       go : (q : Bool) → length (pick q [] (trials_from v n (narrowed_of b (middle_of b) d))) ≤ k
       go true = zero-le
       go false = h d
-  rest_few n k b (Refused m) h = zero-le
+  rest_few n k b (Err r) h = zero-le
 
   -- ---- one halving
   no_trial : (n : ℕ) (b : Interval) → Within b.lo b.hi → between_of b (middle_of b) ≡ false → length (trials_from v (suc n) b) ≤ 0

@@ -1,88 +1,97 @@
--- What an answer reports: a number of at most 26, of a refusal never 0; with row 26 the length of the list of trials, with every other number the value 0. Assumes nothing.
+-- What a search's refusal reports: it is a temperature's, or row 26 with the length of the list of trials. So it is one of the rows 6 to 26, and every other has the value 0. Assumes nothing.
 use mathlib.Core.Path.{◌≡◌, refl}
 use mathlib.Core.Logic.{◌⊎◌, inl, inr}
 use mathlib.Core.Bool.{Bool, true, false, not, ◌||◌}
 use mathlib.Core.List.{[]}
 use Prim.Native.Nat.{ℕ, zero, suc, ◌≤◌, ◌<◌, zero-le}
-use native.Mathlib.Nat.{le_trans, le_refl}
+use native.Mathlib.Nat.{le_refl}
 use native.Mathlib.Omega.{arith}
-use lib.Dec.{lit≤}
 use lib.Ieee.{Float, lt}
 use lib.ListN.{length}
+use Rattle.std.specs.Prelude.{Some, None, Ok, Err, IfErr}
+use Rattle.std.proofs.lemmas.Result.{IfErr-weaker}
 use Rattle.numerics.specs.Double.{+0, pick}
-use Rattle.gerg_saturation.specs.Halvings.{middle_of, on_end, narrowed_of, onward, trials_from, numbered, answered_of, halvings_from, halvings_of, encloses, ends_of, search_of, trials_of}
-use Rattle.gerg_saturation.specs.SaturationNumbers.{number_of, value_of}
+use Rattle.gerg_refusals.specs.Refusal as of_refusal
+use Rattle.gerg_refusals.specs.Answer.{number_of, value_of}
+use Rattle.gerg_refusals.specs.declared.Refusal.{Refusal}
+use Rattle.gerg_refusals.specs.declared.Refusal.TheVariants as refusal
+use Rattle.gerg_refusals.proofs.Told.{never_0}
+use Rattle.gerg_saturation.specs.Answer.{Tried, Answer}
+use Rattle.gerg_saturation.specs.Halvings.{middle_of, on_end, narrowed_of, onward, trials_from, answered_of, halvings_from, halvings_of, encloses, ends_of, search_of, trials_of}
 use Rattle.gerg_saturation.specs.declared.Interval.{Interval}
 use Rattle.gerg_saturation.specs.declared.PureSaturation.{PureSaturation}
-use Rattle.gerg_saturation.specs.declared.Verdict.{Verdict}
-use Rattle.gerg_saturation.specs.declared.Verdict.TheVariants as verdict
-use Rattle.gerg_saturation.specs.declared.SaturationAnswer.{SaturationAnswer}
-use Rattle.gerg_saturation.specs.declared.SaturationAnswer.TheVariants.{Found, NotEnclosed, Refused}
-use Rattle.gerg_saturation.proofs.Laws.Verdicts.{Numbered}
+use Rattle.gerg_saturation.specs.declared.Verdict.TheVariants.{Accepted, Apart}
 
--- `trials` is the length of the list
-pub record Reports (a : SaturationAnswer) (trials : ℕ) : Type 0 where
+-- ---- what holds of the temperatures' refusals and of row 26 holds of the search's
+module _ (P : Refusal → Type 0) (v : Float → Tried) (tried : (x : Float) → IfErr (v x) P) where
+  halvings_refusal : (trials n k : ℕ) (b : Interval) → P (refusal.SaturationNotConverged trials) → IfErr (halvings_from v trials n k b) P
+  unfolding halvings_from answered_of onward
+  halvings_refusal trials zero k b own = own
+  halvings_refusal trials (suc n) k b own = go (v (middle_of b)) (tried (middle_of b)) (λ c. halvings_refusal trials n (suc k) c own)
+    where
+      either : (q : Bool) (a : Answer) → IfErr a P → IfErr (pick q (Err (refusal.SaturationNotConverged trials)) a) P
+      either true a p = own
+      either false a p = p
+
+      go :
+          (w : Tried) → IfErr w P → ((c : Interval) → IfErr (halvings_from v trials n (suc k) c) P) →
+          IfErr (answered_of (suc k) w (onward b (middle_of b) w (λ c. halvings_from v trials n (suc k) c) (Err (refusal.SaturationNotConverged trials)))) P
+      go (Ok (Accepted s)) p again = tt
+      go (Ok (Apart d)) p again = either (on_end b (middle_of b)) (halvings_from v trials n (suc k) (narrowed_of b (middle_of b) d)) (again (narrowed_of b (middle_of b) d))
+      go (Err r) p again = p
+
+  pub search_refusal : (limit : ℕ) (b : Interval) → P (refusal.SaturationNotConverged (length (trials_of v limit b))) → IfErr (search_of v limit b) P
+  unfolding search_of trials_of ends_of encloses halvings_of
+  search_refusal limit b own = go (v b.lo) (v b.hi) (tried b.lo) (tried b.hi) own
+    where
+      inner : (q : Bool) → P (refusal.SaturationNotConverged (length (pick (not q) (trials_from v limit b) []))) → IfErr (pick q (Ok None) (halvings_from v (length (trials_from v limit b)) limit 0 b)) P
+      inner true own = tt
+      inner false own = halvings_refusal (length (trials_from v limit b)) limit 0 b own
+
+      go :
+          (a c : Tried) → IfErr a P → IfErr c P → P (refusal.SaturationNotConverged (length (pick (encloses a c) (trials_from v limit b) []))) →
+          IfErr (ends_of a c (halvings_from v (length (trials_from v limit b)) limit 0 b)) P
+      go (Err r) c p q own = p
+      go (Ok (Accepted s)) (Err r) p q own = q
+      go (Ok (Accepted s)) (Ok (Accepted u)) p q own = tt
+      go (Ok (Accepted s)) (Ok (Apart right)) p q own = tt
+      go (Ok (Apart left)) (Err r) p q own = q
+      go (Ok (Apart left)) (Ok (Accepted u)) p q own = tt
+      go (Ok (Apart left)) (Ok (Apart right)) p q own = inner (lt +0 left || lt right +0) own
+
+-- ---- the rows: of a temperature one of the rows 6 to 23, with no value
+pub record Early (r : Refusal) : Type 0 where
+  pub late : 5 < of_refusal.number_of r
+  pub most : of_refusal.number_of r ≤ 23
+  pub plain : of_refusal.value_of r ≡ 0
+
+-- of a search with so many trials
+pub record Row (trials : ℕ) (r : Refusal) : Type 0 where
+  pub late : 5 < of_refusal.number_of r
+  pub most : of_refusal.number_of r ≤ 26
+  pub row_26 : of_refusal.number_of r ≡ 26 → of_refusal.value_of r ≡ trials
+  pub others : (of_refusal.number_of r ≡ 26 → ⊥) → of_refusal.value_of r ≡ 0
+  pub value : of_refusal.value_of r ≤ trials
+
+pub early_row : (trials : ℕ) (r : Refusal) → Early r → Row trials r
+early_row trials r h = let number = h.most in let plain = h.plain in record { late = h.late; most = omega arith; row_26 = λ e. omega arith; others = λ n. plain; value = omega arith }
+
+own_row : (trials : ℕ) → Row trials (refusal.SaturationNotConverged trials)
+own_row trials = record { late = omega arith; most = omega arith; row_26 = λ e. refl; others = λ n. absurd (n refl); value = le_refl trials }
+
+pub search_row : (v : Float → Tried) → ((x : Float) → IfErr (v x) Early) → (limit : ℕ) (b : Interval) → IfErr (search_of v limit b) (Row (length (trials_of v limit b)))
+search_row v early limit b = let n = length (trials_of v limit b) in search_refusal (Row n) v (λ x. IfErr-weaker (v x) Early (Row n) (early_row n) (early x)) limit b (own_row n)
+
+-- ---- what an answer reports
+pub record Reports (a : Answer) (trials : ℕ) : Type 0 where
   pub number : number_of a ≤ 26
+  pub late : (number_of a ≡ 0 → ⊥) → 5 < number_of a
   pub row_26 : number_of a ≡ 26 → value_of a ≡ trials
   pub others : (number_of a ≡ 26 → ⊥) → value_of a ≡ 0
   pub most : value_of a ≤ trials
-  pub accepted : number_of a ≡ 0 → ((s : PureSaturation) × (a ≡ Found s)) ⊎ (a ≡ NotEnclosed)
+  pub accepted : number_of a ≡ 0 → ((s : PureSaturation) × (a ≡ Ok (Some s))) ⊎ (a ≡ Ok None)
 
-module _ (trials : ℕ) where
-  unlike : (n : ℕ) → n ≤ 25 → n ≡ 26 → ⊥
-  unlike n h e = omega arith
-
-  found : (s : PureSaturation) → Reports (Found s) trials
-  found s = record { number = zero-le; row_26 = λ e. absurd (unlike 0 zero-le e); others = λ n. refl; most = zero-le; accepted = λ e. inl (s, refl) }
-
-  none : Reports NotEnclosed trials
-  none = record { number = zero-le; row_26 = λ e. absurd (unlike 0 zero-le e); others = λ n. refl; most = zero-le; accepted = λ e. inr refl }
-
-  some : (n : ℕ) → 0 < n → n ≡ 0 → ⊥
-  some n h e = omega arith
-
-  pub refused : (n : ℕ) → 0 < n → n ≤ 25 → Reports (Refused n 0) trials
-  refused n g h = record { number = le_trans h (lit≤ tt); row_26 = λ e. absurd (unlike n h e); others = λ e. refl; most = zero-le; accepted = λ e. absurd (some n g e) }
-
-  ended : Reports (Refused 26 trials) trials
-  ended = record { number = lit≤ tt; row_26 = λ e. refl; others = λ n. absurd (n refl); most = le_refl trials; accepted = λ e. absurd (some 26 (lit≤ tt) e) }
-
-  either : (q : Bool) (a : SaturationAnswer) → Reports a trials → Reports (pick q (Refused 26 trials) a) trials
-  either true a r = ended
-  either false a r = r
-
--- no temperature is refused by row 24 or later, nor by 0
-module _ (v : Float → Verdict) (few : (x : Float) → Numbered 23 (v x)) where
-  early : (trials n : ℕ) → Numbered 23 (verdict.Refused n) → Reports (Refused n 0) trials
-  early trials n h = refused trials n h.0 (le_trans h.1 (lit≤ tt))
-
-  halvings_report : (trials n k : ℕ) (b : Interval) → Reports (halvings_from v trials n k b) trials
-  unfolding halvings_from answered_of onward
-  halvings_report trials zero k b = ended trials
-  halvings_report trials (suc n) k b = go (v (middle_of b)) (few (middle_of b)) (λ c. halvings_report trials n (suc k) c)
-    where
-      go :
-          (w : Verdict) → Numbered 23 w → ((c : Interval) → Reports (halvings_from v trials n (suc k) c) trials) →
-          Reports (answered_of (suc k) w (onward b (middle_of b) w (λ c. halvings_from v trials n (suc k) c) (Refused 26 trials))) trials
-      go (verdict.Accepted s) p again = found trials (numbered (suc k) s)
-      go (verdict.Apart d) p again = either trials (on_end b (middle_of b)) (halvings_from v trials n (suc k) (narrowed_of b (middle_of b) d)) (again (narrowed_of b (middle_of b) d))
-      go (verdict.Refused j) p again = early trials j p
-
-  pub search_reports : (limit : ℕ) (b : Interval) → Reports (search_of v limit b) (length (trials_of v limit b))
-  unfolding search_of trials_of ends_of encloses halvings_of
-  search_reports limit b = go (v b.lo) (v b.hi) (few b.lo) (few b.hi)
-    where
-      inner : (q : Bool) → Reports (pick q NotEnclosed (halvings_from v (length (trials_from v limit b)) limit 0 b)) (length (pick (not q) (trials_from v limit b) []))
-      inner true = none 0
-      inner false = halvings_report (length (trials_from v limit b)) limit 0 b
-
-      go :
-          (a c : Verdict) → Numbered 23 a → Numbered 23 c →
-          Reports (ends_of a c (halvings_from v (length (trials_from v limit b)) limit 0 b)) (length (pick (encloses a c) (trials_from v limit b) []))
-      go (verdict.Refused n) c p q = early 0 n p
-      go (verdict.Accepted s) (verdict.Refused n) p q = early 0 n q
-      go (verdict.Accepted s) (verdict.Accepted u) p q = found 0 s
-      go (verdict.Accepted s) (verdict.Apart right) p q = found 0 s
-      go (verdict.Apart left) (verdict.Refused n) p q = early 0 n q
-      go (verdict.Apart left) (verdict.Accepted u) p q = found 0 u
-      go (verdict.Apart left) (verdict.Apart right) p q = inner (lt +0 left || lt right +0)
+pub reports : (a : Answer) (trials : ℕ) → IfErr a (Row trials) → Reports a trials
+reports (Ok (Some s)) trials row = record { number = zero-le; late = λ n. absurd (n refl); row_26 = λ e. omega arith; others = λ n. refl; most = zero-le; accepted = λ e. inl (s, refl) }
+reports (Ok None) trials row = record { number = zero-le; late = λ n. absurd (n refl); row_26 = λ e. omega arith; others = λ n. refl; most = zero-le; accepted = λ e. inr refl }
+reports (Err r) trials row = record { number = row.most; late = λ n. row.late; row_26 = row.row_26; others = row.others; most = row.value; accepted = λ e. absurd (never_0 r e) }

@@ -1,65 +1,43 @@
--- What a sample and its verdict say of a refusal, what ends that enclose are, and what row 25 leaves. Assumes nothing.
+-- What a refused temperature says of its sample, what ends that enclose are, and what row 25 leaves. Assumes nothing.
 use mathlib.Core.Path.{◌≡◌, refl}
-use mathlib.Core.Bool.{Bool, true, false, not, ◌||◌, false≢true}
-use mathlib.Core.List.{List}
-use Prim.Native.Nat.{ℕ, ◌≤◌, ◌<◌}
+use mathlib.Core.Bool.{Bool, true, false, not, ◌||◌}
+use Prim.Native.Nat.{ℕ}
 use lib.Dec.{T, eqb}
-use lib.Ieee.{Float, lt, le}
+use lib.Ieee.{Float, lt}
 use lib.Ieee.Scale.{finite}
-use Rattle.numerics.specs.Double.{pick}
+use Rattle.std.specs.Prelude.{Ok, Err, IfErr}
 use Rattle.numerics.specs.Tests.{holds, not-false, or_false}
 use Rattle.gerg_reducing.specs.declared.GergModel.{GergModel}
+use Rattle.gerg_refusals.specs.declared.Refusal.{Refusal}
+use Rattle.gerg_saturation.specs.Answer.{Sample, Tried}
 use Rattle.gerg_saturation.specs.Checks.{positive_fractions, refused_by, saturation_refused}
-use Rattle.gerg_saturation.specs.Coexistence.{coexisting_of, most_residual, verdict_of}
+use Rattle.gerg_saturation.specs.Coexistence.{tried_of}
 use Rattle.gerg_saturation.specs.Halvings.{encloses}
-use Rattle.gerg_saturation.specs.declared.Sample.{Sample}
-use Rattle.gerg_saturation.specs.declared.Sample.TheVariants as sampled
-use Rattle.gerg_saturation.specs.declared.Verdict.{Verdict}
-use Rattle.gerg_saturation.specs.declared.Verdict.TheVariants.{Accepted, Apart, Refused}
+use Rattle.gerg_saturation.specs.declared.Verdict.TheVariants.{Accepted, Apart}
 
--- a refusal is by one of the rows 1 to `most`, never by 0
-abbrev pub Numbered : ℕ → Verdict → Type 0
-Numbered most (Accepted s) = Unit {0}
-Numbered most (Apart d) = Unit {0}
-Numbered most (Refused n) = (0 < n) × (n ≤ most)
+-- what holds of a sample's refusal holds of the temperature's
+pub tried_refusal : (P : Refusal → Type 0) (s : Sample) → IfErr s P → IfErr (tried_of s) P
+unfolding tried_of
+tried_refusal P (Ok roots) p = tt
+tried_refusal P (Err r) p = p
 
-abbrev pub SampleNumbered : ℕ → Sample → Type 0
-SampleNumbered most (sampled.Single sign) = Unit {0}
-SampleNumbered most (sampled.Coexisting difference s) = Unit {0}
-SampleNumbered most (sampled.Refused n) = (0 < n) × (n ≤ most)
-
-pub coexisting_number : (most place : ℕ) (temperature pressure : Float) (a b c d : List Float) → SampleNumbered most (coexisting_of place temperature pressure a b c d)
-unfolding coexisting_of
-coexisting_number most place temperature pressure a b c d = tt
-
--- a verdict refuses by the number of its sample
-pub by_sample : (most : ℕ) (s : Sample) → SampleNumbered most s → Numbered most (verdict_of s)
-unfolding verdict_of
-by_sample most (sampled.Single sign) p = tt
-by_sample most (sampled.Coexisting difference s) p = go (le s.fugacity_residual most_residual)
-  where
-    go : (q : Bool) → Numbered most (pick q (Accepted s) (Apart difference))
-    go true = tt
-    go false = tt
-by_sample most (sampled.Refused n) p = p
-
-pub verdict_refused : (n : ℕ) → verdict_of (sampled.Refused n) ≡ Refused n
-unfolding verdict_of
-verdict_refused n = refl
+pub refused_tried : (r : Refusal) → tried_of (Err r) ≡ Err r
+unfolding tried_of
+refused_tried r = refl
 
 -- ---- ends that enclose are apart, so neither is refused
-abbrev pub is_apart : Verdict → Bool
-is_apart (Accepted s) = false
-is_apart (Apart d) = true
-is_apart (Refused n) = false
+abbrev pub is_apart : Tried → Bool
+is_apart (Ok (Accepted s)) = false
+is_apart (Ok (Apart d)) = true
+is_apart (Err r) = false
 
-pub enclosing : (a c : Verdict) → encloses a c ≡ true → (is_apart a ≡ true) × (is_apart c ≡ true)
+pub enclosing : (a c : Tried) → encloses a c ≡ true → (is_apart a ≡ true) × (is_apart c ≡ true)
 unfolding encloses
-enclosing (Apart l) (Apart r) e = (refl, refl)
-enclosing (Apart l) (Accepted s) e = absurd (false≢true e)
-enclosing (Apart l) (Refused n) e = absurd (false≢true e)
-enclosing (Accepted s) c e = absurd (false≢true e)
-enclosing (Refused n) c e = absurd (false≢true e)
+enclosing (Ok (Apart l)) (Ok (Apart r)) e = (refl, refl)
+enclosing (Ok (Apart l)) (Ok (Accepted s)) e = cc
+enclosing (Ok (Apart l)) (Err r) e = cc
+enclosing (Ok (Accepted s)) c e = cc
+enclosing (Err r) c e = cc
 
 -- row 25 of a model, by the number of its positive fractions
 pub refused_is : (m : GergModel) (lo hi : Float) → saturation_refused m lo hi ≡ refused_by (positive_fractions m) lo hi

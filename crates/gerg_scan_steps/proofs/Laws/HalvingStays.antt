@@ -1,21 +1,22 @@
 -- The best point of a crossing lies between its ends, whatever the samples are. Assumes nothing.
 use mathlib.Core.Path.{◌≡◌, refl, sym}
-use mathlib.Core.Bool.{Bool, true, false, ◌||◌, true≢false}
-use Prim.Native.Nat.{ℕ, zero, suc, ◌≤◌, ◌<◌}
+use mathlib.Core.Bool.{Bool, true, false, ◌||◌}
+use Prim.Native.Nat.{◌≤◌, ◌<◌}
 use native.Mathlib.Nat.{le_trans, le_refl, le_of_lt}
 use native.Mathlib.Omega.{arith}
 use lib.Ieee.{Float, lt, le, eq}
+use Rattle.std.specs.Prelude.{Result, Ok, Err, IfOk}
 use Rattle.numerics.specs.Double.{+0, pick}
-use Rattle.numerics.specs.Iterate.{iter}
 use Rattle.numerics.specs.Tests.{or_false}
 use Rattle.numerics.specs.Spacing.{count, Good}
 use Rattle.numerics.specs.SpacingRounded.{Ranged}
 use Rattle.numerics.specs.MiddleLaws.{middle_good, middle_from, middle_to}
-use Rattle.gerg_scan_steps.specs.Halving.{size_of, middle_of, narrowed_of, stopped_by, tried_of, halved_of, unhalved, crossing_of}
-use Rattle.gerg_scan_steps.specs.declared.Sample.{Sample}
-use Rattle.gerg_scan_steps.specs.declared.Sample.TheVariants.{Value, Refused}
+use Rattle.gerg_scan_steps.specs.Halving.{size_of, middle_of, narrowed_of, tried_of, halved_of, unhalved, crossing_of}
+use Rattle.gerg_refusals.specs.declared.Refusal.{Refusal}
+use Rattle.gerg_scan_steps.specs.Sample.{Sample}
 use Rattle.gerg_scan_steps.specs.declared.Halving.{Halving}
 use Rattle.gerg_grid.proofs.Laws.Rising.{strictly, unlike_count}
+use Rattle.gerg_scan_steps.proofs.Laws.Answers.{steps_keep}
 
 -- x is a double from a to b
 pub record Between (a b x : Float) : Type 0 where
@@ -77,28 +78,28 @@ narrowed_stays a b tolerance f h s o = record {
       sides a b h o q.1 p.1 (lt f +0);
 }
 
-tried_stays : (a b tolerance : Float) (h : Halving) (v : Sample) → Stays a b h → Open a b h.lo h.hi → Stays a b (tried_of tolerance h (middle_of h) v)
-unfolding tried_of stopped_by
-tried_stays a b tolerance h (Value f stiffness) s o = narrowed_stays a b tolerance f h s o
-tried_stays a b tolerance h (Refused n) s o = record { best = s.best; going = λ e. absurd (true≢false e) }
+tried_stays : (a b tolerance : Float) (h : Halving) (v : Sample) → Stays a b h → Open a b h.lo h.hi → IfOk (tried_of tolerance h (middle_of h) v) (Stays a b)
+unfolding tried_of
+tried_stays a b tolerance h (Ok (f, stiffness)) s o = narrowed_stays a b tolerance f h s o
+tried_stays a b tolerance h (Err r) s o = tt
 
-halved_stays : (v : Float → Sample) (a b tolerance : Float) (h : Halving) → Stays a b h → Stays a b (halved_of v tolerance h)
+halved_stays : (v : Float → Sample) (a b tolerance : Float) (h : Halving) → Stays a b h → IfOk (halved_of v tolerance h) (Stays a b)
 unfolding halved_of
 halved_stays v a b tolerance h s = go h.stopped refl
   where
-    go : (t : Bool) → h.stopped ≡ t → Stays a b (pick t h (tried_of tolerance h (middle_of h) (v (middle_of h))))
+    go : (t : Bool) → h.stopped ≡ t → IfOk (pick t (Ok h) (tried_of tolerance h (middle_of h) (v (middle_of h)))) (Stays a b)
     go true e = s
     go false e = tried_stays a b tolerance h (v (middle_of h)) s (s.going e)
 
-iterated : (v : Float → Sample) (a b tolerance : Float) (n : ℕ) (h : Halving) → Stays a b h → Stays a b (iter (λ k. halved_of v tolerance) n h)
-unfolding iter
-iterated v a b tolerance zero h s = s
-iterated v a b tolerance (suc n) h s = halved_stays v a b tolerance (iter (λ k. halved_of v tolerance) n h) (iterated v a b tolerance n h s)
-
 -- the best point of a crossing
-pub crossing_between : (v : Float → Sample) (tolerance lo hi : Float) → Ranged lo hi → Between lo hi (crossing_of v tolerance lo hi).best_density
+pub crossing_between : (v : Float → Sample) (tolerance lo hi : Float) → Ranged lo hi → IfOk (crossing_of v tolerance lo hi) (λ h. Between lo hi h.best_density)
 unfolding crossing_of unhalved
 crossing_between v tolerance lo hi r =
-    (iterated v lo hi tolerance 100 (unhalved lo hi)
+    best (crossing_of v tolerance lo hi)
+    (steps_keep (λ k. Stays lo hi) (λ r. Unit {0}) (λ k. halved_of v tolerance) 100 (Ok (unhalved lo hi))
     (record { best = record { good = r.low; from = le_refl (count lo); to = le_of_lt r.rises }; going = λ e. record { ranged = r; from = le_refl (count lo); to = le_refl (count hi) } })
-    ).best
+    (λ k h l s. halved_stays v lo hi tolerance h s))
+  where
+    best : (c : Result Halving Refusal) → IfOk c (Stays lo hi) → IfOk c (λ h. Between lo hi h.best_density)
+    best (Ok h) s = s.best
+    best (Err r) s = tt

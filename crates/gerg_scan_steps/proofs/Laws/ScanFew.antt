@@ -1,60 +1,75 @@
 -- A scan finds at most as many roots as the grid has points, whatever the samples are. Assumes nothing.
-use mathlib.Core.Path.{◌≡◌, refl}
+use mathlib.Core.Path.{◌≡◌, sym}
 use mathlib.Core.Bool.{Bool, true, false, ◌&&◌}
-use mathlib.Core.List.{List, [], ◌∷◌, ◌++◌}
-use Prim.Native.Nat.{◌+◌, ◌-◌, ◌≤◌}
+use mathlib.Core.List.{List}
+use Prim.Native.Nat.{ℕ, suc, ◌+◌, ◌-◌, ◌≤◌}
 use native.Mathlib.Omega.{arith}
-use lib.Dec.{eqb}
 use lib.Ieee.{Float, nan, le}
 use lib.ListN.{length, get_or}
+use Rattle.std.specs.Prelude.{Result, Ok, Err, IfOk}
 use Rattle.numerics.specs.Double.{+0, pick}
 use Rattle.numerics.specs.Iterate.{range}
-use Rattle.numerics.specs.Growing.{iter_grows, one_more, none_more}
+use Rattle.numerics.specs.Growing.{one_more, none_more}
+use Rattle.gerg_refusals.specs.declared.Refusal.{Refusal}
+use Rattle.gerg_scan_steps.specs.Answers.{mapped}
 use Rattle.gerg_scan_steps.specs.Halving.{tolerance_of, crossing_of}
-use Rattle.gerg_scan_steps.specs.Scan.{Scanned, refused_by, begun_at, noted_of, apart, rooted_of, moved_of, crossed_of, seen_of, scan_step, scan_of}
-use Rattle.gerg_scan_steps.specs.declared.Sample.{Sample}
-use Rattle.gerg_scan_steps.specs.declared.Sample.TheVariants.{Value, Refused}
+use Rattle.gerg_scan_steps.specs.Sample.{Sample}
+use Rattle.gerg_scan_steps.specs.Scan.{begun_at, noted_of, densities, apart, grown, rooted_of, moved_of, crossed_of, seen_of, scan_step, scan_of}
 use Rattle.gerg_scan_steps.specs.declared.Halving.{Halving}
+use Rattle.gerg_scan_steps.specs.declared.Scan.{Scan}
+use Rattle.gerg_scan_steps.proofs.Laws.Answers.{accepted, steps_keep}
 
 module _ (v : Float → Sample) (target : Float) where
-  rooted_more : (h : Halving) (s : Scanned) → length (rooted_of h s).densities ≤ length s.densities + 1
-  unfolding rooted_of refused_by
-  rooted_more h s = go (eqb h.refused 0) (apart h.best_density s.densities)
+  rooted_more : (h : Halving) (s : Scan) → length (rooted_of h s).roots.items ≤ length s.roots.items + 1
+  unfolding rooted_of
+  rooted_more h s = go (apart h.best_density (densities s.roots.items))
     where
-      go : (a b : Bool) → length (pick a (pick b (record { previous = s.previous; left = s.left; first_negative = s.first_negative; last_negative = s.last_negative; densities = s.densities ++ (h.best_density ∷ []); residuals = s.residuals ++ (h.best_residual ∷ []); refused = s.refused }) s) (refused_by h.refused s)).densities ≤ length s.densities + 1
-      go true true = one_more s.densities h.best_density
-      go true false = none_more (length s.densities)
-      go false b = none_more (length s.densities)
+      go : (a : Bool) → length (pick a (grown (record { density = h.best_density; residual = h.best_residual }) s) s).roots.items ≤ length s.roots.items + 1
+      go true = one_more s.roots.items (record { density = h.best_density; residual = h.best_residual })
+      go false = none_more (length s.roots.items)
 
-  crossed_more : (current right : Float) (s : Scanned) → length (crossed_of v target current right s).densities ≤ length s.densities + 1
+  crossed_more : (current right : Float) (s : Scan) → IfOk (crossed_of v target current right s) (λ r. length r.roots.items ≤ length s.roots.items + 1)
   unfolding crossed_of
-  crossed_more current right s = go (le s.left +0 && le +0 right)
+  crossed_more current right s = go (le s.left +0 && le +0 right) (crossing_of v (tolerance_of target) s.previous current)
     where
-      go : (b : Bool) → length (pick b (rooted_of (crossing_of v (tolerance_of target) s.previous current) s) s).densities ≤ length s.densities + 1
-      go true = rooted_more (crossing_of v (tolerance_of target) s.previous current) s
-      go false = none_more (length s.densities)
+      go : (b : Bool) (c : Result Halving Refusal) → IfOk (pick b (mapped (λ h. rooted_of h s) c) (Ok s)) (λ r. length r.roots.items ≤ length s.roots.items + 1)
+      go true (Ok h) = rooted_more h s
+      go true (Err r) = tt
+      go false c = none_more (length s.roots.items)
 
-  seen_more : (current : Float) (s : Scanned) (x : Sample) → length (seen_of v target current s x).densities ≤ length s.densities + 1
-  unfolding seen_of moved_of noted_of refused_by
-  seen_more current s (Value right stiffness) = crossed_more current right (noted_of current stiffness s)
-  seen_more current s (Refused n) = none_more (length s.densities)
+  seen_more : (current : Float) (s : Scan) (x : Sample) → IfOk (seen_of v target current s x) (λ r. length r.roots.items ≤ length s.roots.items + 1)
+  unfolding seen_of moved_of noted_of
+  seen_more current s (Ok (right, stiffness)) = go (crossed_of v target current right (noted_of current stiffness s)) (crossed_more current right (noted_of current stiffness s))
+    where
+      go : (c : Result Scan Refusal) → IfOk c (λ r. length r.roots.items ≤ length s.roots.items + 1) → IfOk (mapped (moved_of current right) c) (λ r. length r.roots.items ≤ length s.roots.items + 1)
+      go (Ok r) h = h
+      go (Err r) h = tt
+  seen_more current s (Err r) = tt
 
-  step_more : (current : Float) (s : Scanned) → length (scan_step v target current s).densities ≤ length s.densities + 1
+  -- a step finds one root at most
+  pub step_more : (current : Float) (s : Scan) → IfOk (scan_step v target current s) (λ r. length r.roots.items ≤ length s.roots.items + 1)
   unfolding scan_step
-  step_more current s = go (eqb s.refused 0)
-    where
-      go : (b : Bool) → length (pick b (seen_of v target current s (v current)) s).densities ≤ length s.densities + 1
-      go true = seen_more current s (v current)
-      go false = none_more (length s.densities)
+  step_more current s = seen_more current s (v current)
 
-  begun_none : (first : Float) (x : Sample) → length (begun_at first x).densities ≡ 0
+  pub step_few : (current : Float) (s r : Scan) → Ok r ≡ scan_step v target current s → length r.roots.items ≤ length s.roots.items + 1
+  step_few current s r e = accepted (λ q. length q.roots.items ≤ length s.roots.items + 1) (scan_step v target current s) (sym e) (step_more current s)
+
+  begun_none : (first : Float) (x : Sample) → IfOk (begun_at first x) (λ s. length s.roots.items ≤ 0)
   unfolding begun_at
-  begun_none first (Value f stiffness) = refl
-  begun_none first (Refused n) = refl
+  begun_none first (Ok (f, stiffness)) = omega arith
+  begun_none first (Err r) = tt
 
-  pub scan_few : (grid : List Float) → length (scan_of v target grid).densities ≤ length grid
+  pub begun_few : (first : Float) (x : Sample) (s : Scan) → Ok s ≡ begun_at first x → length s.roots.items ≤ 0
+  begun_few first x s e = accepted (λ q. length q.roots.items ≤ 0) (begun_at first x) (sym e) (begun_none first x)
+
+  pub scan_few : (grid : List Float) → IfOk (scan_of v target grid) (λ s. length s.roots.items ≤ length grid)
   unfolding scan_of range
-  scan_few grid =
-      let s = begun_at (get_or grid 0 nan) (v (get_or grid 0 nan)) in
-      let g = iter_grows (λ (s : Scanned). length s.densities) (λ k. scan_step v target (get_or grid (1 + k) nan)) s (λ k s. step_more (get_or grid (1 + k) nan) s) (length grid - 1) in
-      omega (arith, g, begun_none (get_or grid 0 nan) (v (get_or grid 0 nan)))
+  scan_few grid = wider (scan_of v target grid) (steps_keep (λ k s. length s.roots.items ≤ k) (λ r. Unit {0}) (λ k. scan_step v target (get_or grid (1 + k) nan)) (length grid - 1) (begun_at (get_or grid 0 nan) (v (get_or grid 0 nan))) (begun_none (get_or grid 0 nan) (v (get_or grid 0 nan))) (λ k s l h. more k s h (scan_step v target (get_or grid (1 + k) nan) s) (step_more (get_or grid (1 + k) nan) s)))
+    where
+      more : (k : ℕ) (s : Scan) → length s.roots.items ≤ k → (x : Result Scan Refusal) → IfOk x (λ r. length r.roots.items ≤ length s.roots.items + 1) → IfOk x (λ r. length r.roots.items ≤ suc k)
+      more k s h (Ok r) g = omega arith
+      more k s h (Err r) g = tt
+
+      wider : (x : Result Scan Refusal) → IfOk x (λ s. length s.roots.items ≤ length grid - 1) → IfOk x (λ s. length s.roots.items ≤ length grid)
+      wider (Ok r) g = omega arith
+      wider (Err r) g = tt

@@ -1,8 +1,8 @@
 -- The roots of a scan rise, whatever the samples are. Assumes nothing.
-use mathlib.Core.Path.{◌≡◌, refl, sym, ◌∙◌, subst}
+use mathlib.Core.Path.{◌≡◌, refl, sym, ap, ◌∙◌, subst}
 use mathlib.Core.Bool.{Bool, true, false, ◌&&◌, true≢false}
 use mathlib.Core.List.{List, [], ◌∷◌, ◌++◌}
-use Prim.Native.Nat.{ℕ, zero, suc, ◌+◌, ◌-◌, ◌≤◌, ◌<◌}
+use Prim.Native.Nat.{ℕ, suc, ◌+◌, ◌-◌, ◌≤◌, ◌<◌}
 use native.Mathlib.Nat.{le_trans, le_of_lt}
 use native.Mathlib.Omega.{arith}
 use borrow.Author.Tests.{ne_eqb}
@@ -10,15 +10,20 @@ use lib.Dec.{T, eqb}
 use lib.Ieee.{Float, nan, lt, le, of_bits}
 use lib.Ieee.Positive.{positive}
 use lib.ListN.{length, get_or}
+use Rattle.std.specs.Prelude.{Result, Ok, Err, IfOk}
 use Rattle.numerics.specs.Double.{◌⊖◌, ◌⊗◌, bits, +0, pick}
-use Rattle.numerics.specs.Iterate.{iter, range}
+use Rattle.numerics.specs.Iterate.{range}
 use Rattle.numerics.specs.Spacing.{count, Good, same}
 use Rattle.numerics.specs.SpacingRounded.{Ranged}
 use Rattle.gerg_scan_steps.specs.Halving.{size_of, tolerance_of, crossing_of}
-use Rattle.gerg_scan_steps.specs.Scan.{Scanned, refused_by, begun_at, noted_of, apart, rooted_of, moved_of, crossed_of, seen_of, scan_step, scan_of}
-use Rattle.gerg_scan_steps.specs.declared.Sample.{Sample}
-use Rattle.gerg_scan_steps.specs.declared.Sample.TheVariants.{Value, Refused}
+use Rattle.gerg_refusals.specs.declared.Refusal.{Refusal}
+use Rattle.gerg_scan_steps.specs.Answers.{mapped}
+use Rattle.gerg_scan_steps.specs.Sample.{Sample}
+use Rattle.gerg_scan_steps.specs.Scan.{begun_at, noted_of, densities, apart, grown, rooted_of, moved_of, crossed_of, seen_of, scan_step, scan_of}
 use Rattle.gerg_scan_steps.specs.declared.Halving.{Halving}
+use Rattle.gerg_scan_steps.specs.declared.Point.{Point}
+use Rattle.gerg_scan_steps.specs.declared.Scan.{Scan}
+use Rattle.gerg_scan_steps.proofs.Laws.Answers.{steps_keep}
 use Rattle.gerg_grid.proofs.Laws.Rising.{Density, Rising, rising_none, rising_more, last, last_more, strictly}
 use Rattle.gerg_scan_steps.proofs.Laws.HalvingStays.{Between, crossing_between}
 use Rattle.numerics.specs.ZeroDifference.{Zero, product_sign, not_under, difference_zero, zero_zero, zero_sign}
@@ -60,82 +65,71 @@ joins l x b c k d f t a = record {
   upto = λ p. subst (λ (z : Float). count z ≤ c) (sym (last_more l x)) t;
 }
 
--- ---- a crossing's best point joins, or the roots stay as they are
-rooted_keeps : (h : Halving) (s : Scanned) (c : ℕ) → Keeps s.densities (count s.previous) → Density h.best_density → count s.previous ≤ count h.best_density → count h.best_density ≤ c → Keeps (rooted_of h s).densities c
-unfolding rooted_of refused_by
-rooted_keeps h s c k d f t = go (eqb h.refused 0) (apart h.best_density s.densities) refl
-  where
-    stay : Keeps s.densities c
-    stay = wider s.densities (count s.previous) c (le_trans f t) k
+densities_more : (l : List Point) (p : Point) → densities (l ++ (p ∷ [])) ≡ densities l ++ (p.density ∷ [])
+densities_more [] p = refl
+densities_more (x ∷ l) p = ap (λ (z : List Float). x.density ∷ z) (densities_more l p)
 
-    go : (a b : Bool) → apart h.best_density s.densities ≡ b → Keeps (pick a (pick b (record { previous = s.previous; left = s.left; first_negative = s.first_negative; last_negative = s.last_negative; densities = s.densities ++ (h.best_density ∷ []); residuals = s.residuals ++ (h.best_residual ∷ []); refused = s.refused }) s) (refused_by h.refused s)).densities c
-    go true true e = joins s.densities h.best_density (count s.previous) c k d f t e
-    go true false e = stay
-    go false b e = stay
+-- ---- a crossing's best point joins, or the roots stay as they are
+rooted_keeps : (h : Halving) (s : Scan) (c : ℕ) → Keeps (densities s.roots.items) (count s.previous) → Density h.best_density → count s.previous ≤ count h.best_density → count h.best_density ≤ c → Keeps (densities (rooted_of h s).roots.items) c
+unfolding rooted_of
+rooted_keeps h s c k d f t = go (apart h.best_density (densities s.roots.items)) refl
+  where
+    best : Point
+    best = record { density = h.best_density; residual = h.best_residual }
+
+    go : (b : Bool) → apart h.best_density (densities s.roots.items) ≡ b → Keeps (densities (pick b (grown best s) s).roots.items) c
+    go true e = rw (densities_more s.roots.items best) (joins (densities s.roots.items) h.best_density (count s.previous) c k d f t e)
+    go false e = wider (densities s.roots.items) (count s.previous) c (le_trans f t) k
 
 ranged_of : (a b : Float) → Density a → Density b → count a < count b → Ranged a b
 ranged_of a b d e h = record { low = d.good; high = e.good; rises = h; least = d.least; most = e.most }
 
-crossed_keeps : (v : Float → Sample) (target current right : Float) (s : Scanned) → Keeps s.densities (count s.previous) → Density s.previous → Density current → count s.previous < count current → Keeps (crossed_of v target current right s).densities (count current)
+crossed_keeps :
+    (v : Float → Sample) (target current right : Float) (s : Scan) → Keeps (densities s.roots.items) (count s.previous) → Density s.previous → Density current → count s.previous < count current →
+    IfOk (crossed_of v target current right s) (λ r. Keeps (densities r.roots.items) (count current))
 unfolding crossed_of
-crossed_keeps v target current right s k p d h = go (le s.left +0 && le +0 right)
+crossed_keeps v target current right s k p d h =
+    go (le s.left +0 && le +0 right) (crossing_of v (tolerance_of target) s.previous current) (crossing_between v (tolerance_of target) s.previous current (ranged_of s.previous current p d h))
   where
-    b : Between s.previous current (crossing_of v (tolerance_of target) s.previous current).best_density
-    b = crossing_between v (tolerance_of target) s.previous current (ranged_of s.previous current p d h)
-
-    dense : Density (crossing_of v (tolerance_of target) s.previous current).best_density
-    dense = record { good = b.good; least = omega (arith, p.least, b.from); most = le_trans b.to d.most }
-
-    go : (t : Bool) → Keeps (pick t (rooted_of (crossing_of v (tolerance_of target) s.previous current) s) s).densities (count current)
-    go true = rooted_keeps (crossing_of v (tolerance_of target) s.previous current) s (count current) k dense b.from b.to
-    go false = wider s.densities (count s.previous) (count current) (le_of_lt h) k
+    go : (t : Bool) (c : Result Halving Refusal) → IfOk c (λ h. Between s.previous current h.best_density) → IfOk (pick t (mapped (λ h. rooted_of h s) c) (Ok s)) (λ r. Keeps (densities r.roots.items) (count current))
+    go true (Ok g) b = rooted_keeps g s (count current) k (record { good = b.good; least = omega (arith, p.least, b.from); most = le_trans b.to d.most }) b.from b.to
+    go true (Err r) b = tt
+    go false c b = wider (densities s.roots.items) (count s.previous) (count current) (le_of_lt h) k
 
 -- ---- a step of the scan at the grid point i
 module _ (v : Float → Sample) (target : Float) (grid : List Float) (g : Rising grid) where
-  record Scanning (i : ℕ) (s : Scanned) : Type 0 where
-    keeps : Keeps s.densities (count s.previous)
+  record Scanning (i : ℕ) (s : Scan) : Type 0 where
+    keeps : Keeps (densities s.roots.items) (count s.previous)
     dense : Density s.previous
     under : (j : ℕ) → i < j → j < length grid → count s.previous < count (get_or grid j nan)
 
-  later : (i : ℕ) (s : Scanned) → Scanning i s → Scanning (suc i) s
-  later i s k = record { keeps = k.keeps; dense = k.dense; under = λ j a b. k.under j (omega arith) b }
-
-  seen : (i : ℕ) (s : Scanned) (z : Sample) → suc i < length grid → Scanning i s → Scanning (suc i) (seen_of v target (get_or grid (suc i) nan) s z)
-  unfolding seen_of moved_of noted_of refused_by
-  seen i s (Refused n) h k = record { keeps = k.keeps; dense = k.dense; under = λ j a b. k.under j (omega arith) b }
-  seen i s (Value right stiffness) h k = record {
-    keeps = crossed_keeps v target (get_or grid (suc i) nan) right (noted_of (get_or grid (suc i) nan) stiffness s) k.keeps k.dense (g.each (suc i) h) (k.under (suc i) (omega arith) h);
-    dense = g.each (suc i) h;
-    under = λ j a b. g.order (suc i) j a b;
-  }
-
-  stepped : (i : ℕ) (s : Scanned) → suc i < length grid → Scanning i s → Scanning (suc i) (scan_step v target (get_or grid (suc i) nan) s)
-  unfolding scan_step
-  stepped i s h k = go (eqb s.refused 0)
+  seen : (i : ℕ) (s : Scan) (z : Sample) → suc i < length grid → Scanning i s → IfOk (seen_of v target (get_or grid (suc i) nan) s z) (Scanning (suc i))
+  unfolding seen_of moved_of noted_of
+  seen i s (Err r) h k = tt
+  seen i s (Ok (right, stiffness)) h k =
+      go (crossed_of v target (get_or grid (suc i) nan) right (noted_of (get_or grid (suc i) nan) stiffness s))
+      (crossed_keeps v target (get_or grid (suc i) nan) right (noted_of (get_or grid (suc i) nan) stiffness s) k.keeps k.dense (g.each (suc i) h) (k.under (suc i) (omega arith) h))
     where
-      go : (t : Bool) → Scanning (suc i) (pick t (seen_of v target (get_or grid (suc i) nan) s (v (get_or grid (suc i) nan))) s)
-      go true = seen i s (v (get_or grid (suc i) nan)) h k
-      go false = later i s k
+      go : (c : Result Scan Refusal) → IfOk c (λ r. Keeps (densities r.roots.items) (count (get_or grid (suc i) nan))) → IfOk (mapped (moved_of (get_or grid (suc i) nan) right) c) (Scanning (suc i))
+      go (Ok r) q = record { keeps = q; dense = g.each (suc i) h; under = λ j a b. g.order (suc i) j a b }
+      go (Err r) q = tt
 
-  begins : (z : Sample) → 0 < length grid → Scanning 0 (begun_at (get_or grid 0 nan) z)
+  begins : (z : Sample) → 0 < length grid → IfOk (begun_at (get_or grid 0 nan) z) (Scanning 0)
   unfolding begun_at
-  begins (Value f stiffness) h = record { keeps = record { rises = rising_none; upto = λ p. absurd (none p) }; dense = g.each 0 h; under = λ j a b. g.order 0 j a b }
+  begins (Ok (f, stiffness)) h = record { keeps = record { rises = rising_none; upto = λ p. absurd (none p) }; dense = g.each 0 h; under = λ j a b. g.order 0 j a b }
     where
       none : 0 < 0 → ⊥
       none p = omega arith
-  begins (Refused n) h = record { keeps = record { rises = rising_none; upto = λ p. absurd (none p) }; dense = g.each 0 h; under = λ j a b. g.order 0 j a b }
-    where
-      none : 0 < 0 → ⊥
-      none p = omega arith
-
-  scanned : (n : ℕ) (s : Scanned) → n < length grid → Scanning 0 s → Scanning n (iter (λ k. scan_step v target (get_or grid (1 + k) nan)) n s)
-  unfolding iter
-  scanned zero s h k = k
-  scanned (suc n) s h k =
-      let e : 1 + n ≡ suc n = omega arith in
-      rw e (stepped n (iter (λ k. scan_step v target (get_or grid (1 + k) nan)) n s) h (scanned n s (omega arith) k))
+  begins (Err r) h = tt
 
   -- the roots of a scan over a rising grid
-  pub scan_rises : 0 < length grid → Rising (scan_of v target grid).densities
-  unfolding scan_of range
-  scan_rises h = (scanned (length grid - 1) (begun_at (get_or grid 0 nan) (v (get_or grid 0 nan))) (omega arith) (begins (v (get_or grid 0 nan)) h)).keeps.rises
+  pub scan_rises : 0 < length grid → IfOk (scan_of v target grid) (λ s. Rising (densities s.roots.items))
+  unfolding scan_of scan_step range
+  scan_rises h =
+      rise (scan_of v target grid)
+      (steps_keep Scanning (λ r. Unit {0}) (λ k. scan_step v target (get_or grid (1 + k) nan)) (length grid - 1) (begun_at (get_or grid 0 nan) (v (get_or grid 0 nan))) (begins (v (get_or grid 0 nan)) h)
+      (λ k s l p. let e : 1 + k ≡ suc k = omega arith in rw e (seen k s (v (get_or grid (suc k) nan)) (omega arith) p)))
+    where
+      rise : (c : Result Scan Refusal) → IfOk c (Scanning (length grid - 1)) → IfOk c (λ s. Rising (densities s.roots.items))
+      rise (Ok s) k = k.keeps.rises
+      rise (Err r) k = tt

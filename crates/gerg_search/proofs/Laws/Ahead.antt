@@ -6,22 +6,22 @@ use native.Mathlib.Omega.{arith}
 use lib.Dec.{T, nleb→lt}
 use lib.Ieee.{Float}
 use lib.ListN.{length}
-use Rattle.gerg_search.proofs.Laws.Differ.{differ}
+use Rattle.gerg_search.specs.Stop.{refusal_of}
 use Rattle.gerg_search.specs.Steps.{begin_of, stage_of, step_of, moved_by, moved_of}
-use Rattle.gerg_search.specs.Run.{on_try, last_from, searched, last_of, answer_of, refusal_value, reported}
+use Rattle.gerg_search.specs.Run.{on_try, last_from, searched, last_of, answer_of, reported}
 use Rattle.gerg_search.proofs.Laws.Verdicts.{Fair}
 use Rattle.gerg_search.specs.declared.Options.{Options}
-use Rattle.gerg_search.specs.declared.Sample.{Sample}
-use Rattle.gerg_search.specs.declared.Sample.TheVariants.{Residual, Stopped}
+use Rattle.gerg_search.specs.Sample.{Sample}
 use Rattle.gerg_search.specs.declared.Stage.{Stage}
 use Rattle.gerg_search.specs.declared.Stage.TheVariants.{Low, High, Interior}
 use Rattle.gerg_search.specs.declared.Search.{Search}
-use Rattle.gerg_search.specs.declared.Outcome.TheVariants.{Found, Failed}
 use Rattle.gerg_search.specs.declared.Step.{Step}
 use Rattle.gerg_search.specs.declared.Step.TheVariants.{Try, Accepted, Refused}
 use Rattle.gerg_search.proofs.Laws.Inner.{interior_try}
 use Rattle.gerg_search.proofs.Laws.Start.{Begun}
 use Rattle.gerg_search.proofs.Laws.Whole.{whole}
+use Rattle.std.specs.Prelude.{Ok, Err}
+use Rattle.gerg_search.specs.declared.Stop.{Stop}
 
 -- the most steps that follow the present one
 abbrev steps_left_at : ℕ → ℕ → Stage → ℕ
@@ -55,13 +55,13 @@ pub record On (o : Options) (v : Float → Sample) (s : Search) (x : Float) : Ty
 goes_by : (o : Options) (v : Float → Sample) (s : Search) (x : Float) (g : Stage) (y : Sample) → 1 ≤ o.limit → s.stage ≡ g → v s.density ≡ y → Fresh s.trials g → step_of o s y ≡ Try x
     → (s.trials < o.limit) × (steps_left_at o.limit s.trials g ≡ suc (steps_left o (moved_of s y x))) × Fresh (moved_of s y x).trials (moved_of s y x).stage
 unfolding step_of stage_of moved_of moved_by
-goes_by o v s x g (Stopped n) h e p z q = differ (cc)
-goes_by o v s x Low (Residual f d) h e p z q =
+goes_by o v s x g (Err n) h e p z q = cc
+goes_by o v s x Low (Ok (f, d)) h e p z q =
     subst (λ (w : Search). (s.trials < o.limit) × (steps_left_at o.limit s.trials Low ≡ suc (steps_left o w)) × Fresh w.trials w.stage) (sym (ap (moved_by s f x) e)) (fresh s.trials o.limit z h, refl, z)
   where
     fresh : (t l : ℕ) → t ≡ 0 → 1 ≤ l → t < l
     fresh t l z h = omega arith
-goes_by o v s x High (Residual f d) h e p z q =
+goes_by o v s x High (Ok (f, d)) h e p z q =
     subst (λ (w : Search). (s.trials < o.limit) × (steps_left_at o.limit s.trials High ≡ suc (steps_left o w)) × Fresh w.trials w.stage) (sym (ap (moved_by s f x) e)) (fresh s.trials o.limit z h, one s.trials o.limit z h, tt)
   where
     fresh : (t l : ℕ) → t ≡ 0 → 1 ≤ l → t < l
@@ -69,7 +69,7 @@ goes_by o v s x High (Residual f d) h e p z q =
 
     one : (t l : ℕ) → t ≡ 0 → 1 ≤ l → l ≡ suc (l - (t + 1))
     one t l z h = omega arith
-goes_by o v s x Interior (Residual f d) h e p z q =
+goes_by o v s x Interior (Ok (f, d)) h e p z q =
     let g = interior_try o s f d x (sym (ap (stage_of o s f d) e) ∙ q) in
     let k : s.trials < o.limit = nleb→lt o.limit s.trials (subst (λ (z : Bool). T (not z)) (sym g.more) tt) in
     subst (λ (w : Search). (s.trials < o.limit) × (steps_left_at o.limit s.trials Interior ≡ suc (steps_left o w)) × Fresh w.trials w.stage) (sym (ap (moved_by s f x) e)) (k, more s.trials o.limit k, tt)
@@ -109,10 +109,10 @@ module _ (o : Options) (v : Float → Sample) (b : Begun o) (fair : Fair v) (s :
       ∙ ap (λ (w : Search). reported (step_of o w (v w.density)) w.trials w.bracket) e
       ∙ ap (λ (k : ℕ). reported (step_of o (last_of o v) (v (last_of o v).density)) k (last_of o v).bracket) (whole o v b fair).known.counts
 
-  pub accepts : {x : Float} → step_of o s (v s.density) ≡ Accepted x → Found x s.trials s.bracket ≡ reported (answer_of o v) (length (searched o v)) (last_of o v).bracket
+  pub accepts : {x : Float} → step_of o s (v s.density) ≡ Accepted x → Ok (record { density = x; trials = s.trials; bracket = s.bracket }) ≡ reported (answer_of o v) (length (searched o v)) (last_of o v).bracket
   unfolding reported
-  accepts {x} q = reports (Accepted x) q (λ y p. differ (cc))
+  accepts {x} q = reports (Accepted x) q (λ y p. cc)
 
-  pub refuses : {n : ℕ} → step_of o s (v s.density) ≡ Refused n → Failed n (refusal_value n s.trials) ≡ reported (answer_of o v) (length (searched o v)) (last_of o v).bracket
+  pub refuses : {c : Stop} → step_of o s (v s.density) ≡ Refused c → Err (refusal_of c s.trials) ≡ reported (answer_of o v) (length (searched o v)) (last_of o v).bracket
   unfolding reported
-  refuses {n} q = reports (Refused n) q (λ y p. differ (cc))
+  refuses {c} q = reports (Refused c) q (λ y p. cc)

@@ -13,7 +13,7 @@ use Rattle.gerg_search.specs.Run.{on_try, counted, trials_from}
 use Rattle.gerg_search.specs.States.{left_by}
 use Rattle.gerg_search.specs.declared.Bracket.{Bracket}
 use Rattle.gerg_search.specs.declared.Options.{Options}
-use Rattle.gerg_search.specs.declared.Sample.{Sample}
+use Rattle.gerg_search.specs.Sample.{Sample}
 use Rattle.gerg_search.specs.declared.Stage.{Stage}
 use Rattle.gerg_search.specs.declared.Stage.TheVariants.{Interior}
 use Rattle.gerg_search.specs.declared.Search.{Search}

@@ -10,7 +10,6 @@ use lib.Dec.{T, leb, leb→le, nleb→lt}
 use lib.Ieee.{Float, le}
 use lib.ListN.{length}
 use Rattle.numerics.specs.Double.{pick}
-use Rattle.gerg_search.proofs.Laws.Differ.{differ}
 use Rattle.gerg_search.specs.Point.{next_of, collapsed_at, within_of}
 use Rattle.gerg_search.specs.Steps.{go_on_of, interior_of, stage_of, step_of, moved_by, moved_of}
 use Rattle.gerg_search.specs.Run.{on_try, trials_from, last_from}
@@ -18,8 +17,7 @@ use Rattle.gerg_search.proofs.Laws.Verdicts.{Fair, Outside, Seen, Full}
 use Rattle.gerg_search.specs.States.{left_by}
 use Rattle.gerg_search.specs.declared.Bracket.{Bracket}
 use Rattle.gerg_search.specs.declared.Options.{Options}
-use Rattle.gerg_search.specs.declared.Sample.{Sample}
-use Rattle.gerg_search.specs.declared.Sample.TheVariants.{Residual, Stopped}
+use Rattle.gerg_search.specs.Sample.{Sample}
 use Rattle.gerg_search.specs.declared.Stage.TheVariants.{Interior}
 use Rattle.gerg_search.specs.declared.Search.{Search}
 use Rattle.gerg_search.specs.declared.Step.{Step}
@@ -30,6 +28,9 @@ use Rattle.gerg_search.proofs.Laws.Shrink.{next_shrinks}
 use Rattle.gerg_search.proofs.Laws.Inner.{Inner, Narrowed, Gone, narrows, steps_on, stays_inner}
 use Rattle.gerg_search.proofs.Laws.Bound.{list_is}
 use Rattle.gerg_search.proofs.Laws.Ended.{last_step}
+use Rattle.std.specs.Prelude.{Ok, Err}
+use Rattle.gerg_search.specs.declared.Stop.TheVariants as stop
+use Rattle.gerg_search.specs.declared.Stop.{Stop}
 
 -- ---- an interior step's answer and what it says
 abbrev next : Search → Float → Float → Float
@@ -37,7 +38,7 @@ next s f d = next_of (left_by s f) s.density f d
 
 -- the three tests, in their order: within the tolerance, collapsed, the limit
 abbrev answer : Search → Float → Float → Bool → Bool → Bool → Step
-answer s f d w c l = pick w (Accepted s.density) (pick c (Refused 18) (pick l (Refused 19) (Try (next s f d))))
+answer s f d w c l = pick w (Accepted s.density) (pick c (Refused stop.Collapsed) (pick l (Refused stop.LimitReached) (Try (next s f d))))
 
 accepts : (o : Options) (s : Search) (f d x : Float) → interior_of o s f d ≡ Accepted x → x ≡ s.density
 unfolding interior_of go_on_of
@@ -45,23 +46,23 @@ accepts o s f d x e = go (within_of o.tolerance f) (collapsed_at (left_by s f) (
   where
     go : (w c l : Bool) → answer s f d w c l ≡ Accepted x → x ≡ s.density
     go true c l e = cc
-    go false true l e = differ (cc)
-    go false false true e = differ (cc)
-    go false false false e = differ (cc)
+    go false true l e = cc
+    go false false true e = cc
+    go false false false e = cc
 
-record Refuses (o : Options) (s : Search) (f d : Float) (n : ℕ) : Type 0 where
+record Refuses (o : Options) (s : Search) (f d : Float) (c : Stop) : Type 0 where
   outside : within_of o.tolerance f ≡ false
-  cause : ((n ≡ 18) × (collapsed_at (left_by s f) (next s f d) ≡ true)) ⊎ ((n ≡ 19) × (collapsed_at (left_by s f) (next s f d) ≡ false) × (leb o.limit s.trials ≡ true))
+  cause : ((c ≡ stop.Collapsed) × (collapsed_at (left_by s f) (next s f d) ≡ true)) ⊎ ((c ≡ stop.LimitReached) × (collapsed_at (left_by s f) (next s f d) ≡ false) × (leb o.limit s.trials ≡ true))
 
-refuses : (o : Options) (s : Search) (f d : Float) (n : ℕ) → interior_of o s f d ≡ Refused n → Refuses o s f d n
+refuses : (o : Options) (s : Search) (f d : Float) (c : Stop) → interior_of o s f d ≡ Refused c → Refuses o s f d c
 unfolding interior_of go_on_of
-refuses o s f d n e = go (within_of o.tolerance f) (collapsed_at (left_by s f) (next s f d)) (leb o.limit s.trials) refl refl refl e
+refuses o s f d k e = go (within_of o.tolerance f) (collapsed_at (left_by s f) (next s f d)) (leb o.limit s.trials) refl refl refl e
   where
-    go : (w c l : Bool) → within_of o.tolerance f ≡ w → collapsed_at (left_by s f) (next s f d) ≡ c → leb o.limit s.trials ≡ l → answer s f d w c l ≡ Refused n → Refuses o s f d n
-    go true c l p q r e = differ (cc)
+    go : (w c l : Bool) → within_of o.tolerance f ≡ w → collapsed_at (left_by s f) (next s f d) ≡ c → leb o.limit s.trials ≡ l → answer s f d w c l ≡ Refused k → Refuses o s f d k
+    go true c l p q r e = cc
     go false true l p q r e = record { outside = p; cause = inl ((cc), q) }
     go false false true p q r e = record { outside = p; cause = inr ((cc), q, r) }
-    go false false false p q r e = differ (cc)
+    go false false false p q r e = cc
 
 -- ---- what the whole list holds while a search goes on: n steps are left
 pub record Held (o : Options) (v : Float → Sample) (l : List Float) (n : ℕ) (s : Search) : Type 0 where
@@ -89,8 +90,8 @@ pub record Collapsed (o : Options) (v : Float → Sample) (l : List Float) : Typ
 pub record Known (o : Options) (v : Float → Sample) (l : List Float) (s : Search) (a : Step) : Type 0 where
   pub counts : s.trials ≡ length l
   pub accepted : (x : Float) → a ≡ Accepted x → T (le o.bracket.lo x) × T (le x o.bracket.hi)
-  pub collapses : a ≡ Refused 18 → Collapsed o v l
-  pub limited : a ≡ Refused 19 → Full o v s l
+  pub collapses : a ≡ Refused stop.Collapsed → Collapsed o v l
+  pub limited : a ≡ Refused stop.LimitReached → Full o v s l
 
 -- the state that a step ends
 abbrev pub Ends : Options → (Float → Sample) → List Float → Search → Type 0
@@ -149,34 +150,31 @@ module _ (o : Options) (v : Float → Sample) (fair : Fair v) (gl : Good o.brack
       }
     where
       accept : (y : Sample) (x : Float) → step_of o s y ≡ Accepted x → T (le o.bracket.lo x) × T (le x o.bracket.hi)
-      accept (Stopped m) x q = differ (cc)
-      accept (Residual f d) x q =
+      accept (Err m) x q = cc
+      accept (Ok (f, d)) x q =
           let z = accepts o s f d x (sym (ap (stage_of o s f d) i.stage) ∙ q) in (
             subst (λ (w : Float). T (le o.bracket.lo w)) (sym z) (count→le o.bracket.lo s.density gl i.good (le_trans i.first i.from)),
             subst (λ (w : Float). T (le w o.bracket.hi)) (sym z) (count→le s.density o.bracket.hi i.good gh (le_trans i.to i.last)),
           )
 
-      early : (m : ℕ) → m < 16 → (m ≡ 18 → ⊥) × (m ≡ 19 → ⊥)
-      early m h = (λ e. omega arith, λ e. omega arith)
-
-      collapse : (y : Sample) → v s.density ≡ y → step_of o s y ≡ Refused 18 → Collapsed o v l
-      collapse (Stopped m) w q = absurd ((early m (fair.before s.density m w)).0 (cc))
-      collapse (Residual f d) w q =
-          let z = refuses o s f d 18 (sym (ap (stage_of o s f d) i.stage) ∙ q) in
+      collapse : (y : Sample) → v s.density ≡ y → step_of o s y ≡ Refused stop.Collapsed → Collapsed o v l
+      collapse (Err m) w q = cc
+      collapse (Ok (f, d)) w q =
+          let z = refuses o s f d stop.Collapsed (sym (ap (stage_of o s f d) i.stage) ∙ q) in
           let b = narrows o v s f d i w z.outside in
           let k = tried_part n s (left_by s f) i h b in
           elim z.cause [
             | inl u ↦ record { bracket = left_by s f; ranged = b.ranged; at = s.density; f = f; derivative = d; collapsed = u.1; low = k.0; high = k.1; below = b.below; above = b.above }
-            | inr u ↦ absurd (omega arith)
+            | inr u ↦ let q = u.0 in cc
           ]
 
-      limit : (y : Sample) → v s.density ≡ y → s.trials ≡ length l → step_of o s y ≡ Refused 19 → Full o v s l
-      limit (Stopped m) w cs q = absurd ((early m (fair.before s.density m w)).1 (cc))
-      limit (Residual f d) w cs q =
-          let z = refuses o s f d 19 (sym (ap (stage_of o s f d) i.stage) ∙ q) in
+      limit : (y : Sample) → v s.density ≡ y → s.trials ≡ length l → step_of o s y ≡ Refused stop.LimitReached → Full o v s l
+      limit (Err m) w cs q = cc
+      limit (Ok (f, d)) w cs q =
+          let z = refuses o s f d stop.LimitReached (sym (ap (stage_of o s f d) i.stage) ∙ q) in
           let b = narrows o v s f d i w z.outside in
           elim z.cause [
-            | inl u ↦ absurd (omega arith)
+            | inl u ↦ let q = u.0 in cc
             | inr u ↦
                 let g = next_shrinks (left_by s f) s.density f d b.ranged u.1 in
                 record {

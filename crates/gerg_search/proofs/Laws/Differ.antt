@@ -1,4 +1,4 @@
--- Two constructors that would be equal: `differ (cc)`. Assumes nothing.
+-- Two constructors that would be equal: `cc`. Assumes nothing.
 use mathlib.Core.Path.{◌≡◌}
 use Prim.Native.Nat.{ℕ}
 use native.Mathlib.Omega.{arith}

@@ -8,21 +8,21 @@ use native.Mathlib.Omega.{arith}
 use lib.Dec.{leb}
 use lib.Ieee.{Float, lt}
 use Rattle.numerics.specs.Double.{+0, pick}
-use Rattle.gerg_search.proofs.Laws.Differ.{differ}
 use Rattle.gerg_search.specs.Point.{next_of, narrowed_of, collapsed_at, within_of}
 use Rattle.gerg_search.specs.Steps.{go_on_of, interior_of, stage_of, step_of, moved_by, moved_of}
 use Rattle.gerg_search.proofs.Laws.Verdicts.{Outside}
 use Rattle.gerg_search.specs.States.{left_by}
 use Rattle.gerg_search.specs.declared.Bracket.{Bracket}
 use Rattle.gerg_search.specs.declared.Options.{Options}
-use Rattle.gerg_search.specs.declared.Sample.{Sample}
-use Rattle.gerg_search.specs.declared.Sample.TheVariants.{Residual, Stopped}
+use Rattle.gerg_search.specs.Sample.{Sample}
 use Rattle.gerg_search.specs.declared.Stage.TheVariants.{Interior}
 use Rattle.gerg_search.specs.declared.Search.{Search}
 use Rattle.gerg_search.specs.declared.Step.TheVariants.{Try, Accepted, Refused}
 use Rattle.numerics.specs.Spacing.{count, Good, same}
 use Rattle.numerics.specs.SpacingRounded.{Ranged}
 use Rattle.gerg_search.proofs.Laws.Shrink.{Shrunk, next_shrinks}
+use Rattle.std.specs.Prelude.{Ok, Err}
+use Rattle.gerg_search.specs.declared.Stop.TheVariants as stop
 
 -- ---- what an interior step says, by its answer
 pub record Goes (o : Options) (s : Search) (f d x : Float) : Type 0 where
@@ -37,11 +37,11 @@ interior_try o s f d x e =
     go (within_of o.tolerance f) (collapsed_at (left_by s f) (next_of (left_by s f) s.density f d)) (leb o.limit s.trials) refl refl refl e
   where
     go : (w c l : Bool) → within_of o.tolerance f ≡ w → collapsed_at (left_by s f) (next_of (left_by s f) s.density f d) ≡ c → leb o.limit s.trials ≡ l
-        → pick w (Accepted s.density) (pick c (Refused 18) (pick l (Refused 19) (Try (next_of (left_by s f) s.density f d)))) ≡ Try x
+        → pick w (Accepted s.density) (pick c (Refused stop.Collapsed) (pick l (Refused stop.LimitReached) (Try (next_of (left_by s f) s.density f d)))) ≡ Try x
         → Goes o s f d x
-    go true c l p q r e = differ (cc)
-    go false true l p q r e = differ (cc)
-    go false false true p q r e = differ (cc)
+    go true c l p q r e = cc
+    go false true l p q r e = cc
+    go false false true p q r e = cc
     go false false false p q r e = record { outside = p; apart = q; more = r; next = cc }
 
 -- ---- an interior state
@@ -61,8 +61,8 @@ apart : (o : Options) (v : Float → Sample) (x y : Float) → Outside o v true 
 apart o v x y a b e = true≢false (sym a.sign ∙ ap (λ (z : Float). lt z +0) same_f ∙ b.sign)
   where
     first_of : Sample → Float
-    first_of (Residual f d) = f
-    first_of (Stopped n) = +0
+    first_of (Ok (f, d)) = f
+    first_of (Err n) = +0
 
     same_f : a.f ≡ b.f
     same_f = ap first_of (sym a.is ∙ ap v e ∙ b.is)
@@ -79,7 +79,7 @@ pub record Narrowed (o : Options) (v : Float → Sample) (s : Search) (b : Brack
   pub above : Outside o v false b.hi
   pub part : ((b.hi ≡ s.bracket.hi) × (b.lo ≡ s.density)) ⊎ ((b.lo ≡ s.bracket.lo) × (b.hi ≡ s.density))
 
-pub narrows : (o : Options) (v : Float → Sample) (s : Search) (f d : Float) → Inner o v s → v s.density ≡ Residual f d → within_of o.tolerance f ≡ false → Narrowed o v s (left_by s f)
+pub narrows : (o : Options) (v : Float → Sample) (s : Search) (f d : Float) → Inner o v s → v s.density ≡ Ok (f, d) → within_of o.tolerance f ≡ false → Narrowed o v s (left_by s f)
 unfolding narrowed_of
 narrows o v s f d i e w = go (lt f +0) refl
   where
@@ -114,7 +114,7 @@ narrows o v s f d i e w = go (lt f +0) refl
 pub record Gone (o : Options) (v : Float → Sample) (s : Search) (x : Float) : Type 0 where
   pub f : Float
   pub derivative : Float
-  pub verdict : v s.density ≡ Residual f derivative
+  pub verdict : v s.density ≡ Ok (f, derivative)
   pub goes : Goes o s f derivative x
   pub moved : moved_of s (v s.density) x ≡ moved_by s f x Interior
   pub narrowed : Narrowed o v s (left_by s f)
@@ -125,8 +125,8 @@ unfolding step_of stage_of moved_of
 steps_on o v s x i = go (v s.density) refl
   where
     go : (y : Sample) → v s.density ≡ y → step_of o s y ≡ Try x → Gone o v s x
-    go (Stopped n) p e = differ (cc)
-    go (Residual f d) p e =
+    go (Err n) p e = cc
+    go (Ok (f, d)) p e =
         let g = interior_try o s f d x (sym (ap (stage_of o s f d) i.stage) ∙ e) in
         let n = narrows o v s f d i p g.outside in
         record {

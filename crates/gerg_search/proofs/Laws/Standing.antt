@@ -8,14 +8,12 @@ use lib.Ieee.{Float, lt}
 use Rattle.numerics.specs.Double.{+0, pick}
 use Rattle.numerics.specs.Tests.{or_false}
 use Rattle.numerics.specs.Spacing.{count→lt}
-use Rattle.gerg_search.proofs.Laws.Differ.{differ}
 use Rattle.gerg_search.specs.Point.{next_of, collapsed_at, within_of, middle_of}
 use Rattle.gerg_search.specs.Steps.{begin_of, go_on_of, interior_of, ends_of, stage_of, step_of, moved_by, moved_of}
 use Rattle.gerg_search.specs.Run.{on_try, counted, trials_from, searched, last_of, answer_of}
 use Rattle.gerg_search.specs.States.{NoneBetween, state_after, left_by}
 use Rattle.gerg_search.specs.declared.Options.{Options}
-use Rattle.gerg_search.specs.declared.Sample.{Sample}
-use Rattle.gerg_search.specs.declared.Sample.TheVariants.{Residual, Stopped}
+use Rattle.gerg_search.specs.Sample.{Sample}
 use Rattle.gerg_search.specs.declared.Stage.{Stage}
 use Rattle.gerg_search.specs.declared.Stage.TheVariants.{Low, High, Interior}
 use Rattle.gerg_search.specs.declared.Search.{Search}
@@ -28,10 +26,12 @@ use Rattle.gerg_search.proofs.Laws.Bound.{list_is}
 use Rattle.gerg_search.proofs.Laws.Start.{Begun, some_limit}
 use Rattle.gerg_search.proofs.Laws.Whole.{at_high, first_inner}
 use Rattle.gerg_search.proofs.Laws.Ahead.{Ahead, steps_left, begins, goes_on, is_last}
+use Rattle.std.specs.Prelude.{Ok, Err}
+use Rattle.gerg_search.specs.declared.Stop.TheVariants as stop
 
 -- the low end, the high end with the residual found at the low one, or an interior state
 abbrev Standing : Options → (Float → Sample) → Search → Type 0
-Standing o v s = (s ≡ begin_of o) ⊎ ((f : Float) × (d : Float) × (v o.bracket.lo ≡ Residual f d) × (s ≡ at_high o f)) ⊎ Inner o v s
+Standing o v s = (s ≡ begin_of o) ⊎ ((f : Float) × (d : Float) × (v o.bracket.lo ≡ Ok (f, d)) × (s ≡ at_high o f)) ⊎ Inner o v s
 
 module _ (o : Options) (v : Float → Sample) (b : Begun o) (fair : Fair v) where
   from_low : (x : Float) → step_of o (begin_of o) (v o.bracket.lo) ≡ Try x → Standing o v (moved_of (begin_of o) (v o.bracket.lo) x)
@@ -39,26 +39,26 @@ module _ (o : Options) (v : Float → Sample) (b : Begun o) (fair : Fair v) wher
   from_low x e = go (v o.bracket.lo) refl e
     where
       go : (y : Sample) → v o.bracket.lo ≡ y → step_of o (begin_of o) y ≡ Try x → Standing o v (moved_of (begin_of o) y x)
-      go (Stopped n) p e = differ (cc)
-      go (Residual f d) p e = let q : x ≡ o.bracket.hi = cc in inr (inl (f, d, p, ap (λ (w : Float). record { stage = High; density = w; bracket = o.bracket; low_residual = f; trials = 0 }) q))
+      go (Err n) p e = cc
+      go (Ok (f, d)) p e = let q : x ≡ o.bracket.hi = cc in inr (inl (f, d, p, ap (λ (w : Float). record { stage = High; density = w; bracket = o.bracket; low_residual = f; trials = 0 }) q))
 
-  from_high : (f d x : Float) → v o.bracket.lo ≡ Residual f d → step_of o (at_high o f) (v o.bracket.hi) ≡ Try x → Standing o v (moved_of (at_high o f) (v o.bracket.hi) x)
+  from_high : (f d x : Float) → v o.bracket.lo ≡ Ok (f, d) → step_of o (at_high o f) (v o.bracket.hi) ≡ Try x → Standing o v (moved_of (at_high o f) (v o.bracket.hi) x)
   unfolding step_of stage_of ends_of moved_of moved_by
   from_high f d x p e = go (v o.bracket.hi) refl e
     where
-      tests : (g h : Float) → v o.bracket.hi ≡ Residual g h → (i j k : Bool) → within_of o.tolerance f ≡ i → within_of o.tolerance g ≡ j → (lt +0 f || lt g +0) ≡ k →
-          pick i (Accepted o.bracket.lo) (pick j (Accepted o.bracket.hi) (pick k (Refused 16) (Try (middle_of o.bracket)))) ≡ Try x → Standing o v (moved_of (at_high o f) (Residual g h) x)
-      tests g h q true j k ei ej ek e = differ (cc)
-      tests g h q false true k ei ej ek e = differ (cc)
-      tests g h q false false true ei ej ek e = differ (cc)
+      tests : (g h : Float) → v o.bracket.hi ≡ Ok (g, h) → (i j k : Bool) → within_of o.tolerance f ≡ i → within_of o.tolerance g ≡ j → (lt +0 f || lt g +0) ≡ k →
+          pick i (Accepted o.bracket.lo) (pick j (Accepted o.bracket.hi) (pick k (Refused stop.NotBracketed) (Try (middle_of o.bracket)))) ≡ Try x → Standing o v (moved_of (at_high o f) (Ok (g, h)) x)
+      tests g h q true j k ei ej ek e = cc
+      tests g h q false true k ei ej ek e = cc
+      tests g h q false false true ei ej ek e = cc
       tests g h q false false false ei ej ek e =
           let s = or_false (lt +0 f) (lt g +0) ek in
           let w : middle_of o.bracket ≡ x = cc in
           inr (inr (subst (λ (y : Float). Inner o v (record { stage = Interior; density = y; bracket = o.bracket; low_residual = f; trials = 0 + 1 })) w (first_inner o v b fair f d g h p q ei ej s.0 s.1)))
 
       go : (y : Sample) → v o.bracket.hi ≡ y → step_of o (at_high o f) y ≡ Try x → Standing o v (moved_of (at_high o f) y x)
-      go (Stopped n) q e = differ (cc)
-      go (Residual g h) q e = tests g h q (within_of o.tolerance f) (within_of o.tolerance g) (lt +0 f || lt g +0) refl refl refl e
+      go (Err n) q e = cc
+      go (Ok (g, h)) q e = tests g h q (within_of o.tolerance f) (within_of o.tolerance g) (lt +0 f || lt g +0) refl refl refl e
 
   stands_on : (s : Search) (x : Float) → Standing o v s → step_of o s (v s.density) ≡ Try x → Standing o v (moved_of s (v s.density) x)
   stands_on s x (inl e) = subst (λ (w : Search). step_of o w (v w.density) ≡ Try x → Standing o v (moved_of w (v w.density) x)) (sym e) (unfold begin_of in from_low x)
@@ -102,11 +102,11 @@ module _ (o : Options) (v : Float → Sample) (b : Begun o) (fair : Fair v) wher
       seen n s.density (subst (λ (l : List Float). Memᴰ s.density l) (sym (list_is o v (steps_left o s) s e)) (Memᴰ.head refl))
 
   -- an interior trial outside the tolerance that leaves no double between the ends is collapsed
-  collapses : (s : Search) (f d : Float) → Inner o v s → v s.density ≡ Residual f d → within_of o.tolerance f ≡ false → NoneBetween (left_by s f).lo (left_by s f).hi → step_of o s (v s.density) ≡ Refused 18
+  collapses : (s : Search) (f d : Float) → Inner o v s → v s.density ≡ Ok (f, d) → within_of o.tolerance f ≡ false → NoneBetween (left_by s f).lo (left_by s f).hi → step_of o s (v s.density) ≡ Refused stop.Collapsed
   unfolding step_of stage_of interior_of go_on_of
   collapses s f d i e w none = ap (step_of o s) e ∙ ap (stage_of o s f d) i.stage ∙ go (collapsed_at (left_by s f) (next_of (left_by s f) s.density f d)) refl
     where
-      go : (c : Bool) → collapsed_at (left_by s f) (next_of (left_by s f) s.density f d) ≡ c → interior_of o s f d ≡ Refused 18
+      go : (c : Bool) → collapsed_at (left_by s f) (next_of (left_by s f) s.density f d) ≡ c → interior_of o s f d ≡ Refused stop.Collapsed
       go true q = rw (w, q)
       go false q =
           let n = narrows o v s f d i e w in
@@ -114,22 +114,22 @@ module _ (o : Options) (v : Float → Sample) (b : Begun o) (fair : Fair v) wher
           let y = next_of (left_by s f) s.density f d in
           absurd (none y x.good.held (count→lt (left_by s f).lo y n.ranged.low x.good x.over) (count→lt y (left_by s f).hi x.good n.ranged.high x.under))
 
-  pub exhausts : (n : ℕ) (f d : Float) → (state_after o v n).stage ≡ Interior → v (state_after o v n).density ≡ Residual f d → within_of o.tolerance f ≡ false
-      → NoneBetween (left_by (state_after o v n) f).lo (left_by (state_after o v n) f).hi → answer_of o v ≡ Refused 18
+  pub exhausts : (n : ℕ) (f d : Float) → (state_after o v n).stage ≡ Interior → v (state_after o v n).density ≡ Ok (f, d) → within_of o.tolerance f ≡ false
+      → NoneBetween (left_by (state_after o v n) f).lo (left_by (state_after o v n) f).hi → answer_of o v ≡ Refused stop.Collapsed
   unfolding begin_of answer_of
   exhausts n f d = let h = stands n in at_state (state_after o v n) h.0 h.1
     where
       no : {A : Type 0} (s : Search) (g : Stage) → s.stage ≡ g → g ≡ Low ⊎ g ≡ High → s.stage ≡ Interior → A
-      no s g p (inl q) e = differ (cc)
-      no s g p (inr q) e = differ (cc)
+      no s g p (inl q) e = cc
+      no s g p (inr q) e = cc
 
       stage_of_lem : Search → Stage
       stage_of_lem s = s.stage
 
-      at_state : (s : Search) → Standing o v s → Ahead o v s → s.stage ≡ Interior → v s.density ≡ Residual f d → within_of o.tolerance f ≡ false → NoneBetween (left_by s f).lo (left_by s f).hi → answer_of o v ≡ Refused 18
+      at_state : (s : Search) → Standing o v s → Ahead o v s → s.stage ≡ Interior → v s.density ≡ Ok (f, d) → within_of o.tolerance f ≡ false → NoneBetween (left_by s f).lo (left_by s f).hi → answer_of o v ≡ Refused stop.Collapsed
       at_state s (inl q) a e p w none = no s Low (ap stage_of_lem q) (inl refl) e
       at_state s (inr (inl q)) a e p w none = no s High (ap stage_of_lem q.3) (inr refl) e
       at_state s (inr (inr i)) a e p w none =
-          let r : step_of o s (v s.density) ≡ Refused 18 = collapses s f d i p w none in
-          let l : s ≡ last_of o v = is_last o v s a (λ x t. differ (cc)) in
+          let r : step_of o s (v s.density) ≡ Refused stop.Collapsed = collapses s f d i p w none in
+          let l : s ≡ last_of o v = is_last o v s a (λ x t. cc) in
           ap (λ (z : Search). step_of o z (v z.density)) (sym l) ∙ r

@@ -3,7 +3,7 @@ use mathlib.Core.Path.{◌≡◌}
 use mathlib.Core.Logic.{◌⊎◌}
 use mathlib.Core.Bool.{Bool, true, false}
 use mathlib.Core.List.{List, Memᴰ}
-use Prim.Native.Nat.{ℕ, ◌<◌}
+use Prim.Native.Nat.{◌<◌}
 use lib.Dec.{T}
 use lib.Ieee.{Float, binary64, fits, is_nan, lt}
 use lib.ListN.{length}
@@ -13,19 +13,21 @@ use Rattle.gerg_search.specs.States.{NoneBetween, left_by}
 use Rattle.gerg_search.specs.declared.Options.{Options}
 use Rattle.gerg_search.specs.declared.Search.{Search}
 use Rattle.gerg_search.specs.declared.Stage.TheVariants.{Interior}
-use Rattle.gerg_search.specs.declared.Sample.{Sample}
-use Rattle.gerg_search.specs.declared.Sample.TheVariants.{Residual, Stopped}
+use Rattle.gerg_refusals.specs.Refusal.{number_of}
+use Rattle.gerg_search.specs.Sample.{Sample}
+use Rattle.std.specs.Prelude.{Ok, Err}
+use Rattle.gerg_refusals.specs.declared.Refusal.{Refusal}
 
 -- a trial refuses by a row before 16 (8, 9, 12 or 15), and a residual that it gives is a number
 pub record Fair (v : Float → Sample) : Type 0 where
-  pub number : (x f d : Float) → v x ≡ Residual f d → is_nan f ≡ false
-  pub before : (x : Float) (n : ℕ) → v x ≡ Stopped n → n < 16
+  pub number : (x f d : Float) → v x ≡ Ok (f, d) → is_nan f ≡ false
+  pub before : (x : Float) (r : Refusal) → v x ≡ Err r → number_of r < 16
 
 -- at x the residual is outside the tolerance; it is below zero where `side` is true
 pub record Outside (o : Options) (v : Float → Sample) (side : Bool) (x : Float) : Type 0 where
   pub f : Float
   pub derivative : Float
-  pub is : v x ≡ Residual f derivative
+  pub is : v x ≡ Ok (f, derivative)
   pub outside : within_of o.tolerance f ≡ false
   pub sign : lt f +0 ≡ side
 
@@ -53,7 +55,7 @@ pub record Full (o : Options) (v : Float → Sample) (s : Search) (l : List Floa
   pub interior : s.stage ≡ Interior
   pub f : Float
   pub derivative : Float
-  pub is : v s.density ≡ Residual f derivative
+  pub is : v s.density ≡ Ok (f, derivative)
   pub outside : within_of o.tolerance f ≡ false
   pub between : Float
   pub held : T (fits binary64 between)

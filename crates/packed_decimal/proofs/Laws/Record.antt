@@ -1,13 +1,16 @@
 -- Laws of one record: whether it is wrong, its parts, its bytes stored one by one. Assumes nothing.
-use mathlib.Core.Path.{◌≡◌, sym}
+use mathlib.Core.Path.{◌≡◌, refl, sym, ◌∙◌}
 use mathlib.Core.Bool.{Bool, true, false, not, ◌||◌}
-use mathlib.Core.List.{List}
-use Prim.Native.Nat.{ℕ, suc, ◌+◌, ◌*◌, ◌/◌, ◌%◌, ◌≤◌, ◌<◌}
+use mathlib.Core.List.{List, [], ◌∷◌}
+use Prim.Native.Nat.{ℕ, ◌+◌, ◌-◌, ◌*◌, ◌/◌, ◌%◌, ◌≤◌, ◌<◌}
 use native.Mathlib.Omega.{arith}
 use borrow.Author.Tests.{lt-ltb, le-ltb, ltb-false}
 use lib.Dec.{eqb, ltb}
-use lib.ListN.{length, get_or, set}
+use lib.ListN.{length, get_or}
 use lib.Seq.{sets}
+use borrow.Rule.Slice.PartMut.{put_mid}
+use Rattle.std.proofs.lemmas.List.Edits.{sets-eq}
+use Rattle.std.proofs.lemmas.Slice.{put_mid-paste}
 use Rattle.numerics.specs.Tests.{or_false}
 use Rattle.packed_decimal.specs.Record.{two_digits, wrong_digits, wrong_record, parts_at, packed, record_of}
 
@@ -33,14 +36,9 @@ pub eight : (bytes : List ℕ) (at a b c d : ℕ) → a ≡ two_digits (get_or b
 unfolding parts_at
 eight bytes at a b c d p q r s = rw (p, q, r, s)
 
--- six stores are the record
-pub stored : (out : List ℕ) (at component parts a b c d : ℕ) → a ≡ packed (parts / 1_000_000 % 100) → b ≡ packed (parts / 10_000 % 100) → c ≡ packed (parts / 100 % 100) → d ≡ packed (parts % 100) →
-    set (set (set (set (set (set out at 16) (at + 1) component) (at + 2) a) (at + 3) b) (at + 4) c) (at + 5) d ≡ sets out at (record_of component parts)
+-- six bytes copied are the record stored
+pub stored : (out : List ℕ) (at component parts : ℕ) {a b c d : ℕ} {bytes : List ℕ} → at + 6 ≤ length out → bytes ≡ 16 ∷ component ∷ a ∷ b ∷ c ∷ d ∷ [] →
+    a ≡ packed (parts / 1_000_000 % 100) → b ≡ packed (parts / 10_000 % 100) → c ≡ packed (parts / 100 % 100) → d ≡ packed (parts % 100) → put_mid at (at + 6 - at) out bytes ≡ sets out at (record_of component parts)
 unfolding record_of
-stored out at component parts a b c d p q r s =
-    let e1 : at + 1 ≡ suc at = omega arith in
-    let e2 : at + 2 ≡ suc (suc at) = omega arith in
-    let e3 : at + 3 ≡ suc (suc (suc at)) = omega arith in
-    let e4 : at + 4 ≡ suc (suc (suc (suc at))) = omega arith in
-    let e5 : at + 5 ≡ suc (suc (suc (suc (suc at)))) = omega arith in
-    rw (e1, e2, e3, e4, e5, p, q, r, s)
+stored out at component parts h e p q r s =
+    put_mid-paste at (at + 6 - at) out _ (record_of component parts) 6 (e ∙ rw (p, q, r, s)) (omega arith) refl ∙ sym (sets-eq (record_of component parts) out at h)

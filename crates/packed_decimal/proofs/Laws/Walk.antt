@@ -1,33 +1,85 @@
--- A walk from record to record stands at byte 6 k: the first wrong record. Assumes nothing.
-use mathlib.Core.Path.{◌≡◌, ap}
-use mathlib.Core.Bool.{Bool, true, false}
-use mathlib.Core.List.{List}
-use Prim.Native.Nat.{ℕ, ◌+◌, ◌-◌, ◌*◌, ◌<◌}
-use native.Mathlib.Omega.{arith}
-use lib.ListN.{length}
+-- The first wrong record is the first chunk of six bytes that is told wrong. Assumes nothing.
+use Rattle.std.proofs.Common.{◌≡◌, refl, sym, ap, ◌∙◌, Bool, true, false, List, [], ◌∷◌, ℕ, zero, suc, ◌+◌, ◌-◌, ◌*◌, ◌<◌, ◌≤◌, min, length, get_or, take, drop, Option, Some, None, arith, ltb, length-take, length-drop, get_or-take, get_or-drop, option_map, is_some}
+use Rattle.std.proofs.lemmas.Bool.{lt-ltb, le-ltb, ltb-true, ltb-false}
+use denote.Ref.{Bor}
+use denote.Param.Members.{Mut, Called}
+use Rattle.std.specs.Option.{IfSome, IsSomeAnd}
+use Rattle.std.specs.List.{IsSubsliceAt}
+use Rattle.std.specs.Iterator.Runs.{Run, CallKeepsClosure, AllItemsGive, IsFirstToGive, ItemsMapToChunks}
 use Rattle.gerg_model.specs.MixtureCheck.{first_place}
 use Rattle.gerg_model.proofs.Laws.First.{first_begins, first_turn, first_here, first_none}
 use Rattle.packed_decimal.specs.Record.{wrong_record}
 use Rattle.packed_decimal.specs.Records.{offset_of, begun, wrong_offset}
+use Rattle.packed_decimal.proofs.Laws.Record.{not_cut}
 
-module _ (bytes : List ℕ) where
-  abbrev wrong_at : ℕ → Bool
-  wrong_at k = wrong_record bytes (offset_of k)
+-- the bytes of record k alone
+abbrev record_alone : List ℕ → ℕ → List ℕ
+record_alone bytes k = take 6 (drop (k * 6) bytes)
 
-  -- no record before record k is wrong
-  abbrev pub Passed : ℕ → Type 0
-  Passed k = first_place wrong_at (begun bytes) 0 ≡ first_place wrong_at (begun bytes - k) k
+byte_alone : (bytes : List ℕ) (k i : ℕ) → i < 6 → get_or (record_alone bytes k) i 0 ≡ get_or bytes (6 * k + i) 0
+byte_alone bytes k i h = get_or-take 6 (drop (k * 6) bytes) i 0 h ∙ get_or-drop (k * 6) bytes i 0 ∙ ap (λ (at : ℕ). get_or bytes (at + i) 0) (let e : k * 6 ≡ 6 * k = omega arith in e)
 
-  pub passed_begins : Passed 0
-  passed_begins = first_begins wrong_at (begun bytes)
+cut_alone : (m n at : ℕ) → m ≡ min 6 (n - at) → at < n → ltb m 6 ≡ ltb n (at + 6)
+cut_alone m n at e h = decided (ltb n (at + 6)) refl
+  where
+    decided : (b : Bool) → ltb n (at + 6) ≡ b → ltb m 6 ≡ b
+    decided true p = let l = ltb-true n (at + 6) p in lt-ltb m 6 (omega arith)
+    decided false p = let l = ltb-false n (at + 6) p in le-ltb m 6 (omega arith)
 
-  pub passed_turn : (k : ℕ) → 6 * k < length bytes → wrong_record bytes (6 * k) ≡ false → Passed k → Passed (k + 1)
-  passed_turn k h e p = first_turn wrong_at (begun bytes) k (omega arith) e p
+-- a record is as wrong alone as among the others
+wrong_alone : (bytes : List ℕ) (k : ℕ) → k * 6 < length bytes → wrong_record (record_alone bytes k) 0 ≡ wrong_record bytes (6 * k)
+unfolding wrong_record
+wrong_alone bytes k h =
+    let cut = cut_alone (length (record_alone bytes k)) (length bytes) (6 * k) (omega (arith, length-take 6 (drop (k * 6) bytes), length-drop (k * 6) bytes)) (omega arith) in
+    let first : get_or (record_alone bytes k) 0 0 ≡ get_or bytes (6 * k) 0 = byte_alone bytes k 0 (omega arith) ∙ ap (λ (at : ℕ). get_or bytes at 0) (omega arith) in
+    rw (cut, first, byte_alone bytes k 2 (omega arith), byte_alone bytes k 3 (omega arith), byte_alone bytes k 4 (omega arith), byte_alone bytes k 5 (omega arith))
 
-  pub wrong_here : (k : ℕ) → 6 * k < length bytes → wrong_record bytes (6 * k) ≡ true → Passed k → 6 * k ≡ wrong_offset bytes
+-- no record before record k is wrong
+passed : (bad : ℕ → Bool) (n k : ℕ) → k ≤ n → ((j : ℕ) → j < k → bad j ≡ false) → first_place bad n 0 ≡ first_place bad (n - k) k
+passed bad n zero h e = first_begins bad n
+passed bad n (suc k) h e =
+    let s : k + 1 ≡ suc k = omega arith in
+    rw s at (first_turn bad n k (omega arith) (e k (omega arith)) (passed bad n k (omega arith) (λ j l. e j (omega arith))))
+
+-- there is an item below the length of a run
+item : {A : Type 0} (xs : List A) (j : ℕ) → j < length xs → A
+item [] j h = absurd (omega arith)
+item (x ∷ xs) j h = x
+
+there : {A : Type 0} (P : A → Type 0) (o : Option A) → is_some (option_map (λ y. y) o) ≡ true → IfSome o P → IsSomeAnd o P
+there P None e i = absurd (cc)
+there P (Some y) e i = i
+
+module _ {S F : Type 0} {steps : S → Option (Bor (List ℕ)) → S → Type 0} (p : Run steps) (g : Mut F (Bor (List ℕ) × Unit {0}) Bool) (f : F) (bytes : List ℕ)
+    (tells : (x : Bor (List ℕ)) (b : Bool) → Called g f (x, tt) b f → b ≡ wrong_record x.now 0) (keeps : CallKeepsClosure g f) (chunks : ItemsMapToChunks p (λ x. x.now) 6 bytes) where
+  abbrev bad : ℕ → Bool
+  bad k = wrong_record bytes (offset_of k)
+
+  told : (b : Bool) (k : ℕ) (o : Option (Bor (List ℕ))) → IfSome o (λ x. (0 < length x.now) × (k * 6 < length bytes) × IsSubsliceAt 6 bytes (k * 6) x.now) → IsSomeAnd o (λ x. Called g f (x, tt) b f)
+      → (k * 6 < length bytes) × (wrong_record bytes (6 * k) ≡ b)
+  told b k None i s = absurd s
+  told b k (Some x) i s = (i.1, sym (tells x b s ∙ ap (λ (l : List ℕ). wrong_record l 0) i.2.0 ∙ wrong_alone bytes k i.1))
+
+  some_told : (b : Bool) (k : ℕ) → IsSomeAnd (p.at k) (λ x. Called g f (x, tt) b f) → (k * 6 < length bytes) × (wrong_record bytes (6 * k) ≡ b)
+  some_told b k s = told b k (p.at k) (chunks.2 k) s
+
+  pub first_wrong : (k : ℕ) → IsFirstToGive p g f true false k → 6 * k ≡ wrong_offset bytes
   unfolding wrong_offset
-  wrong_here k h e p = ap offset_of (first_here wrong_at (begun bytes) k (omega arith) e p)
+  first_wrong k h =
+      let i = h keeps in
+      let here = some_told true k i.0 in
+      ap offset_of (first_here bad (begun bytes) k (omega arith) here.1 (passed bad (begun bytes) k (omega arith) (λ j l. (some_told false j (i.1 j l)).1)))
 
-  pub wrong_none : (k : ℕ) → 6 * k ≡ length bytes → Passed k → 6 * k ≡ wrong_offset bytes
+  at_each : (j : ℕ) → j < p.len → is_some (option_map (λ y. y) (p.at j)) ≡ true
+  at_each j h = ap is_some (p.reads j (item p.items j (omega (arith, p.long))) h)
+
+  pub none_wrong : p.whole ≡ true → AllItemsGive p g f false → length bytes ≡ wrong_offset bytes
   unfolding wrong_offset
-  wrong_none k h p = ap offset_of (first_none wrong_at (begun bytes) k (omega arith) p)
+  none_wrong w h =
+      let n : p.len ≡ begun bytes = let e = chunks.1 w in omega arith in
+      let none : (j : ℕ) → j < begun bytes → wrong_record bytes (6 * j) ≡ false = λ j l. (some_told false j (there (λ x. Called g f (x, tt) false f) (p.at j) (at_each j (omega arith)) (h keeps j))).1 in
+      whole (begun bytes) refl none ∙ ap offset_of (first_none bad (begun bytes) (begun bytes) refl (passed bad (begun bytes) (begun bytes) (omega arith) none))
+    where
+      whole : (n : ℕ) → n ≡ begun bytes → ((j : ℕ) → j < n → wrong_record bytes (6 * j) ≡ false) → length bytes ≡ 6 * n
+      whole zero e none = omega arith
+      whole (suc n) e none = let l = not_cut bytes (6 * n) (none n (omega arith)) in omega arith

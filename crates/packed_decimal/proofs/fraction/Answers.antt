@@ -4,4 +4,4 @@ use Rattle.packed_decimal.proofs.Laws.Fraction.{quotient}
 use Rattle.packed_decimal.proofs.fraction.Goals as goal
 
 pub returns : goal.returns
-returns c = quotient _ (omega arith)
+returns c = rw c.from.ensures (quotient _ (omega arith))

@@ -1,17 +1,13 @@
-use native.Mathlib.Omega.{arith}
-use mathlib.Core.Path.{sym, ◌∙◌}
-use Rattle.packed_decimal.proofs.Laws.Record.{not_cut}
-use Rattle.packed_decimal.proofs.Laws.Walk.{passed_begins, passed_turn, wrong_here, wrong_none}
+use Rattle.std.proofs.Common.{rules, lit≤}
 use Rattle.packed_decimal.proofs.wrong_offset.Goals as goal
+use Rattle.packed_decimal.proofs.Laws.Walk.{first_wrong, none_wrong}
 
-pub loop-k-init : goal.loop-k-init
-loop-k-init c = (omega arith, passed_begins _)
+pub returns-in-Some : goal.returns-in-Some
+returns-in-Some c =
+    let u = c.in-Some.ensures.runs in
+    first_wrong u.0 _ _ c.args.bytes.now (λ x b s. search rules) (search rules) (rw (u.1, c.chunks.ensures.size, c.chunks.ensures.rest) at (c.chunks.ensures.runs u.0 u.0.seen) (lit≤ tt)) _ u.2.1
 
-pub returns-then-wrong_record : goal.returns-then-wrong_record
-returns-then-wrong_record c = wrong_here _ _ (omega arith) (sym c.wrong_record.ensures ∙ c.if-wrong_record.true) c.loop-k.invariant.1
-
-pub loop-k-preserved : goal.loop-k-preserved
-loop-k-preserved c = let e = sym c.wrong_record.ensures ∙ c.if-wrong_record.false in let w = not_cut _ _ e in (omega arith, passed_turn _ _ (omega arith) e c.loop-k.invariant.1)
-
-pub returns : goal.returns
-returns c = wrong_none _ _ (omega arith) c.loop-k.invariant.1
+pub returns-in-None : goal.returns-in-None
+returns-in-None c =
+    let u = c.in-None.ensures.runs in
+    none_wrong u.0 _ _ c.args.bytes.now (λ x b s. search rules) (search rules) (rw (u.1, c.chunks.ensures.size, c.chunks.ensures.rest) at (c.chunks.ensures.runs u.0 u.0.seen) (lit≤ tt)) u.2.0 u.2.1

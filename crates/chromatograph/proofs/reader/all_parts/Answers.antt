@@ -1,16 +1,8 @@
-use native.Mathlib.Omega.{arith}
-use mathlib.Core.Path.{refl}
-use lib.ListN.{length-set}
-use Rattle.numerics.specs.Fill.{fill_begins, fill_again, fill_done}
+-- `chromatograph::reader::all_parts` meets its contract. Assumes nothing.
+use Rattle.std.proofs.Common.{rules}
 use Rattle.packed_decimal.specs.Record.{parts_at}
 use Rattle.packed_decimal.specs.Records.{offset_of}
 use Rattle.chromatograph.proofs.reader.all_parts.Goals as goal
 
-pub loop-k-init : goal.loop-k-init
-loop-k-init c = (omega arith, omega arith, omega arith, refl, fill_begins _ _)
-
-pub loop-k-preserved : goal.loop-k-preserved
-loop-k-preserved c = let l = c.loop-k in (omega arith, omega arith, omega arith, simp length-set l.invariant.3, rw c.parts_at.ensures (fill_again (λ i. parts_at _ (offset_of i)) _ _ l.invariant.4 (omega arith)))
-
 pub returns : goal.returns
-returns c = fill_done _ _ _ _ c.loop-k.invariant.4 (omega arith)
+returns c = c.write_front.ensures (λ k. parts_at c.args.bytes.now (offset_of k)) (λ k x h p. search rules)

@@ -4,8 +4,8 @@ use Rattle.elementary.proofs.power.powi.Goals as goal
 
 pub returns-then-n-lt0 : goal.returns-then-n-lt0
 returns-then-n-lt0 c =
-    rw (c.power-r.ensures, c.magnitude.ensures) (powi_negative c.args.x c.args.n c.ranges.n c.if-n-lt0.true)
+    rw (c.power-r.ensures, c.unsigned_abs.ensures.value) (powi_negative c.args.x c.args.n c.ranges.n c.if-n-lt0.true)
 
 pub returns : goal.returns
 returns c =
-    rw (c.power-r.ensures, c.magnitude.ensures) (powi_positive c.args.x c.args.n c.ranges.n c.if-n-lt0.false)
+    rw (c.power-r.ensures, c.unsigned_abs.ensures.value) (powi_positive c.args.x c.args.n c.ranges.n c.if-n-lt0.false)

@@ -1,11 +1,8 @@
--- `elementary::power::powi_byte` meets its contract: each way is a law of `proofs/SignedIntegers.antt`. Assumes nothing.
-use mathlib.Core.Path.{◌∙◌}
-use native.Mathlib.Omega.{arith}
-use Rattle.elementary.proofs.SignedIntegers.{byte_small, byte_large}
+-- `elementary::power::powi_byte` meets its contract, by that of `powi`. Assumes nothing.
+use mathlib.Core.Path.{ap, ◌∙◌}
+use Rattle.elementary.specs.Power.{powi_of}
+use Rattle.elementary.proofs.SignedIntegers.{byte_back, byte_wide}
 use Rattle.elementary.proofs.power.powi_byte.Goals as goal
 
-pub returns-then-b-lt128 : goal.returns-then-b-lt128
-returns-then-b-lt128 c = c.power.ensures ∙ byte_small _ _ (omega arith)
-
 pub returns : goal.returns
-returns c = rw c.power-2.ensures (byte_large _ _ (omega arith) (omega arith))
+returns c = let e = c.from.ensures ∙ byte_back c.args.b c.cast_signed.result c.ranges.b c.cast_signed.ensures in c.powi.ensures ∙ ap (powi_of c.args.x) (byte_wide c.args.b c.from.result c.ranges.b e)

@@ -1,11 +1,8 @@
--- `elementary::power::signed_double` meets its contract: below 128 the byte itself, else minus what it is below 256. Assumes nothing.
-use Rattle.elementary.proofs.SignedIntegers.{signed_small, double_large}
-use native.Mathlib.Omega.{arith}
-use lib.Ieee.{binary64}
+-- `elementary::power::signed_double` meets its contract. Assumes nothing.
+use mathlib.Core.Path.{ap, ◌∙◌}
+use lib.Ieee.{binary64, of_int}
+use Rattle.elementary.proofs.SignedIntegers.{byte_back}
 use Rattle.elementary.proofs.power.signed_double.Goals as goal
 
-pub returns-then-b-lt128 : goal.returns-then-b-lt128
-returns-then-b-lt128 c = rw (signed_small _ c.if-b-lt128.true)
-
 pub returns : goal.returns
-returns c = double_large binary64 _ c.if-b-lt128.false (omega arith)
+returns c = c.from.ensures ∙ ap (of_int binary64) (byte_back c.args.b c.cast_signed.result c.ranges.b c.cast_signed.ensures)

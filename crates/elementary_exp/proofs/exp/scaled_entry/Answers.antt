@@ -1,5 +1,5 @@
 -- `elementary_exp::exp::scaled_entry` meets its contract: the field is below 2047, so the pattern is no NaN's.
-use Rattle.std.proofs.Common.{◌≡◌, ℕ, ◌+◌, ◌*◌, ◌%◌, ◌<◌, ◌≤◌, not, T, ap, ◌∙◌, arith, le-ltb}
+use Rattle.std.proofs.Common.{◌≡◌, ℕ, ◌+◌, ◌*◌, ◌%◌, ◌<◌, ◌≤◌, not, T, refl, ap, ◌∙◌, arith, le-ltb}
 use lib.Ieee.{binary64, nan_bits, of_bits}
 use lib.Ieee.Bits.{nan_bits_above}
 use Rattle.elementary_exp.specs.ExpTable.{entry_pattern}
@@ -24,10 +24,10 @@ entry_pattern-requires c = c.requires.j_bound
 pub float_from_bits-result : goal.float_from_bits-result
 float_from_bits-result c =
     let r = c.requires in
-    number c.wrapping_add_u64.result _ (summed c.wrapping_add_u64.result c.entry_pattern.result (entry_pattern c.args.j) c.args.n c.entry_pattern.ensures c.wrapping_add_u64.ensures.value)
+    number _ _ (summed _ c.entry_pattern.result (entry_pattern c.args.j) c.args.n c.entry_pattern.ensures refl)
     (scaled_number c.args.j c.args.n r.j_bound r.lt_n r.n_bound)
 
 pub returns : goal.returns
 unfolding scaled_entry
 returns c =
-    ap (of_bits binary64) (summed c.wrapping_add_u64.result c.entry_pattern.result (entry_pattern c.args.j) c.args.n c.entry_pattern.ensures c.wrapping_add_u64.ensures.value)
+    ap (of_bits binary64) (summed _ c.entry_pattern.result (entry_pattern c.args.j) c.args.n c.entry_pattern.ensures refl)

@@ -33,7 +33,7 @@ returns-then-b-lt4503599627370496 c =
     let z = count_leading_zeros 64 b in
     let h = highest_bit b c.requires.b_nonzero (omega arith) in
     let e : b * 2 ^ (z - 11) % 2 ^ 64 ≡ b * 2 ^ (z - 11) = omega arith in
-    c.ln_parts.ensures ∙ ap (λ (n : ℕ). ln_parts (76 - z) (n - 2 ^ 52)) e ∙ rw (lt-ltb b (2 ^ 52) c.if-b-lt4503599627370496.true)
+    c.ln_parts.ensures ∙ ap (λ (e : ℕ). ln_parts e (b * 2 ^ (z - 11) % 2 ^ 64 - 2 ^ 52)) c.from.ensures ∙ ap (λ (n : ℕ). ln_parts (76 - z) (n - 2 ^ 52)) e ∙ rw (lt-ltb b (2 ^ 52) c.if-b-lt4503599627370496.true)
 
 pub returns : goal.returns
 unfolding ln_pattern

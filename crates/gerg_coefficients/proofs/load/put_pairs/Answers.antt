@@ -10,58 +10,40 @@ use Rattle.gerg_coefficients.proofs.Steps.{pairs_on, pair_bytes_on}
 use Rattle.gerg_coefficients.proofs.load.put_pairs.Goals as goal
 
 pub loop-i-init : goal.loop-i-init
-loop-i-init c = (omega arith, (omega (arith, sum_none (λ h. 20 - h)), ((λ a la e. rows_none 4086 +0 _ a e), ((λ a la e. rows_none 1631 0 _ a e), λ e j h. absurd (omega arith)))))
+loop-i-init c = (omega (arith, sum_none (λ h. 20 - h)), ((λ a la e. rows_none 4086 +0 _ a e), ((λ a la e. rows_none 1631 0 _ a e), λ e j h. absurd (omega arith))))
 
 pub put_records-finite-requires : goal.put_records-finite-requires
 put_records-finite-requires c =
-    let i = c.loop-i.i in
-    let h : i < 21 = c.loop-i-test.true in
-    let p = c.loop-i.invariant.1.0 in
-    let g = pairs_before i c.loop-i.invariant.0 in
+    let p = c.loop-i.invariant.0 in
+    let g = pairs_before c.loop-i.i (omega arith) in
     (omega arith, (omega arith, omega arith))
 
 pub put_byte_records-requires : goal.put_byte_records-requires
 put_byte_records-requires c =
-    let i = c.loop-i.i in
-    let h : i < 21 = c.loop-i-test.true in
-    let p = c.loop-i.invariant.1.0 in
-    let g = pairs_before i c.loop-i.invariant.0 in
+    let p = c.loop-i.invariant.0 in
+    let g = pairs_before c.loop-i.i (omega arith) in
     (omega arith, (omega arith, omega arith))
-
-pub overflow_mul-at : goal.overflow_mul-at
-overflow_mul-at c =
-    let i = c.loop-i.i in
-    let h : i < 21 = c.loop-i-test.true in
-    let p = c.loop-i.invariant.1.0 in
-    let g = pairs_before i c.loop-i.invariant.0 in
-    omega arith
 
 pub overflow_add-at : goal.overflow_add-at
 overflow_add-at c =
-    let i = c.loop-i.i in
-    let h : i < 21 = c.loop-i-test.true in
-    let p = c.loop-i.invariant.1.0 in
-    let g = pairs_before i c.loop-i.invariant.0 in
+    let p = c.loop-i.invariant.0 in
+    let g = pairs_before c.loop-i.i (omega arith) in
     omega arith
 
 pub loop-i-preserved : goal.loop-i-preserved
 loop-i-preserved c =
     let i = c.loop-i.i in
     let h : i < 21 = c.loop-i-test.true in
-    let p = c.loop-i.invariant.1.0 in
-    let g = pairs_before i c.loop-i.invariant.0 in
+    let p = c.loop-i.invariant.0 in
     let a = c.args in
-    let inv = c.loop-i.invariant.1.1 in (
-      omega arith,
+    let inv = c.loop-i.invariant.1 in (
+      omega (arith, sum_on (λ h. 20 - h) i),
       (
-        omega (arith, sum_on (λ h. 20 - h) i),
+        (λ l la z. pairs_on a.s.now a.from i c.loop-i.at h p l la (inv.0 l la z) c.put_records-finite.ensures.0),
         (
-          (λ l la z. pairs_on a.s.now a.from i c.loop-i.at h p l la (inv.0 l la z) c.put_records-finite.ensures.0),
-          (
-            (λ l la z. pair_bytes_on a.s.now a.from i c.loop-i.at h p l la (inv.1.0 l la z) c.put_byte_records.ensures),
-            finite_turn (FinitePairs a.s.now a.from) i c.loop-i.all c.put_records-finite.result inv.1.1
-                (λ e. rw p at (c.put_records-finite.ensures.1 e)),
-          ),
+          (λ l la z. pair_bytes_on a.s.now a.from i c.loop-i.at h p l la (inv.1.0 l la z) c.put_byte_records.ensures),
+          finite_turn (FinitePairs a.s.now a.from) i c.loop-i.all c.put_records-finite.result inv.1.1
+              (λ e. rw p at (c.put_records-finite.ensures.1 e)),
         ),
       ),
     )
@@ -70,5 +52,5 @@ pub returns : goal.returns
 unfolding pair_doubles pair_integers
 returns c =
     let e : c.loop-i.i ≡ 21 = omega arith in
-    let inv = c.loop-i.invariant.1.1 in
+    let inv = c.loop-i.invariant.1 in
     ((λ a la z. rw e at (inv.0 a la z)), ((λ a la z. rw e at (inv.1.0 a la z)), λ z. rw e at (inv.1.1 z)))

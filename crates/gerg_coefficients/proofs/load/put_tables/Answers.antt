@@ -1,39 +1,7 @@
-use native.Mathlib.Omega.{arith}
 use Rattle.gerg_coefficients.proofs.Steps.{functions_on}
 use Rattle.gerg_coefficients.proofs.Finite.{no_number_fault}
 use Rattle.gerg_coefficients.proofs.Whole.{doubles_stored, integers_stored}
 use Rattle.gerg_coefficients.proofs.load.put_tables.Goals as goal
-
-pub put_components-requires : goal.put_components-requires
-put_components-requires c =
-    let pre = c.requires in
-    let f = pre.0 in
-    omega arith
-
-pub put_terms-requires : goal.put_terms-requires
-put_terms-requires c =
-    let pre = c.requires in
-    let f = pre.0 in
-    (f.terms_limit, omega arith)
-
-pub put_pairs-finite-requires : goal.put_pairs-finite-requires
-put_pairs-finite-requires c =
-    let pre = c.requires in
-    let f = pre.0 in
-    omega arith
-
-pub put_byte_records-requires : goal.put_byte_records-requires
-put_byte_records-requires c =
-    let pre = c.requires in
-    let f = pre.0 in
-    let n = f.count_limit in
-    (omega arith, (omega arith, omega arith))
-
-pub put_departures-requires : goal.put_departures-requires
-put_departures-requires c =
-    let pre = c.requires in
-    let f = pre.0 in
-    (f.departures_limit, omega arith)
 
 pub returns : goal.returns
 returns c =

@@ -13,14 +13,11 @@ use Rattle.gerg_coefficients.proofs.Finite.{finite_on, finite_double}
 use Rattle.gerg_coefficients.proofs.store.put_doubles.Goals as goal
 
 pub loop-k-init : goal.loop-k-init
-loop-k-init c = (omega arith, (no_doubles _ _ _ _, λ j h. absurd (omega arith)))
-
-pub put_any_doubles-requires : goal.put_any_doubles-requires
-put_any_doubles-requires c = (omega arith, omega arith)
+loop-k-init c = (no_doubles _ _ _ _, λ j h. absurd (omega arith))
 
 pub returns-then-w-ge18437736874454810624 : goal.returns-then-w-ge18437736874454810624
 returns-then-w-ge18437736874454810624 c =
-    (doubles_rest _ _ _ _ _ _ c.loop-k.invariant.0 c.loop-k.invariant.1.0 c.put_any_doubles.ensures, λ e. absurd (let z : ◌≡◌ {A = ℕ} 0 1 = cc in omega arith))
+    (doubles_rest _ _ _ _ _ _ (omega arith) c.loop-k.invariant.0 c.put_any_doubles.ensures, λ e. absurd (let z : ◌≡◌ {A = ℕ} 0 1 = cc in omega arith))
 
 pub float_from_bits-out : goal.float_from_bits-out
 float_from_bits-out c =
@@ -34,12 +31,9 @@ loop-k-preserved c =
     let k = c.loop-k in
     let a = c.args in
     let s = a.s.now in (
-      omega arith,
-      (
-        double_on _ _ _ _ _ k.invariant.1.0 (ap (λ (w : ℕ). bits w) c.word_inside-w.ensures),
-        finite_on s a.at k.k k.invariant.1.1 (finite_double s (a.at + 8 * k.k) c.word_inside-w.result c.word_inside-w.ensures (omega arith)),
-      ),
+      double_on _ _ _ _ _ k.invariant.0 (ap (λ (w : ℕ). bits w) c.word_inside-w.ensures),
+      finite_on s a.at k.k k.invariant.1 (finite_double s (a.at + 8 * k.k) c.word_inside-w.result c.word_inside-w.ensures (omega arith)),
     )
 
 pub returns : goal.returns
-returns c = let e : c.loop-k.k ≡ c.args.n = omega arith in (rw e at c.loop-k.invariant.1.0, λ z. rw e at c.loop-k.invariant.1.1)
+returns c = let e : c.loop-k.k ≡ c.args.n = omega arith in (rw e at c.loop-k.invariant.0, λ z. rw e at c.loop-k.invariant.1)

@@ -1,13 +1,8 @@
--- `gerg_coefficients::store::put_doubles` meets its contract. Assumes nothing.
 use mathlib.Core.Path.{◌≡◌}
-use Prim.Native.Nat.{◌-◌, ◌≤◌}
 use lib.Seq.{sets}
 use Rattle.gerg_coefficients.specs.Load.{doubles_at}
 use Rattle.gerg_coefficients.specs.Filling.{FiniteAt}
 use Rattle.gerg_coefficients.proofs.store.put_doubles.Given as goal
 
 abbrev pub invariant-loop-k : goal.invariant-loop-k
-invariant-loop-k l = (l.k ≤ l.n) × ((l.out ≡ sets l.initial.out l.to (doubles_at l.s l.at l.k)) × FiniteAt l.s l.at l.k)
-
-abbrev pub decreases-loop-k : goal.decreases-loop-k
-decreases-loop-k l = l.n - l.k
+invariant-loop-k l = (l.out ≡ sets l.initial.out l.to (doubles_at l.s l.at l.k)) × FiniteAt l.s l.at l.k

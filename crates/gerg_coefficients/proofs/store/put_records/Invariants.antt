@@ -1,6 +1,6 @@
 use mathlib.Core.Path.{◌≡◌}
 use mathlib.Core.Bool.{true}
-use Prim.Native.Nat.{ℕ, ◌+◌, ◌-◌, ◌*◌, ◌≤◌, ◌<◌}
+use Prim.Native.Nat.{ℕ, ◌+◌, ◌*◌, ◌<◌}
 use lib.Seq.{sets}
 use Rattle.gerg_coefficients.specs.Load.{doubles_at, run_of}
 use Rattle.gerg_coefficients.specs.Filling.{FiniteAt}
@@ -8,8 +8,5 @@ use Rattle.gerg_coefficients.proofs.store.put_records.Given as goal
 
 abbrev pub invariant-loop-k : goal.invariant-loop-k
 invariant-loop-k l =
-    (l.k ≤ l.count)
-    × ((l.out ≡ sets l.initial.out l.to (run_of (doubles_at l.s) (l.from + l.offset) l.size l.k l.per)) × (l.all ≡ true → (j : ℕ) → j < l.k → FiniteAt l.s (l.from + l.offset + l.size * j) l.per))
-
-abbrev pub decreases-loop-k : goal.decreases-loop-k
-decreases-loop-k l = l.count - l.k
+    (l.out ≡ sets l.initial.out l.to (run_of (doubles_at l.s) (l.from + l.kind.doubles) l.kind.size l.k l.per))
+    × (l.all ≡ true → (j : ℕ) → j < l.k → FiniteAt l.s (l.from + l.kind.doubles + l.kind.size * j) l.per)

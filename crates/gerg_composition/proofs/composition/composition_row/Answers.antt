@@ -3,18 +3,12 @@ use Rattle.gerg_composition.specs.Composition.{composition_row}
 use native.Mathlib.Omega.{arith}
 use Rattle.gerg_composition.proofs.composition.composition_row.Goals as goal
 
-pub pure_terms-own-requires : goal.pure_terms-own-requires
-pure_terms-own-requires c = c.requires
-
 pub loop-j-init : goal.loop-j-init
-loop-j-init c = (omega arith, omega arith, range_begins _ _ _)
-
-pub departure_pair-requires : goal.departure_pair-requires
-departure_pair-requires c = (omega arith, omega arith, c.requires.1, c.requires.2)
+loop-j-init c = range_begins _ _ _
 
 pub loop-j-preserved : goal.loop-j-preserved
-loop-j-preserved c = (omega arith, omega arith, range_turn _ _ _ _ (omega arith) c.loop-j.invariant.2 c.departure_pair.ensures)
+loop-j-preserved c = range_turn _ _ _ _ (omega arith) c.loop-j.invariant c.departure_pair.ensures
 
 pub returns : goal.returns
 unfolding composition_row
-returns c = rw (← c.pure_terms-own.ensures) (range_done _ _ _ _ _ c.loop-j.invariant.2 (omega arith))
+returns c = rw (← c.pure_terms-own.ensures) (range_done _ _ _ _ _ c.loop-j.invariant (omega arith))

@@ -4,16 +4,10 @@ use native.Mathlib.Omega.{arith}
 use Rattle.gerg_composition.proofs.powers.powers_of.Goals as goal
 
 pub loop-q-init : goal.loop-q-init
-loop-q-init c = (omega arith, refl, fill_begins _ _)
-
-pub offset_bounds-a-at : goal.offset_bounds-a-at
-offset_bounds-a-at c = omega (arith, c.wide-at.ensures)
-
-pub bounds-a-at : goal.bounds-a-at
-bounds-a-at c = omega (arith, c.wide-at.ensures)
+loop-q-init c = (refl, fill_begins _ _)
 
 pub loop-q-preserved : goal.loop-q-preserved
-loop-q-preserved c = (omega arith, c.loop-q.invariant.1, rw (c.wide-at.ensures, c.powi_byte-p.ensures) (fill_again _ _ _ c.loop-q.invariant.2 (omega arith)))
+loop-q-preserved c = (c.loop-q.invariant.0, rw (c.from.ensures, c.powi_byte.ensures) (fill_again _ _ _ c.loop-q.invariant.1 (omega arith)))
 
 pub returns : goal.returns
-returns c = fill_whole _ _ _ _ c.loop-q.invariant.1 c.loop-q.invariant.2 (omega arith)
+returns c = fill_whole _ _ _ _ c.loop-q.invariant.0 c.loop-q.invariant.1 (omega arith)

@@ -1,13 +1,9 @@
 -- `gerg_composition::powers::powers_of` meets its contract. The invariant: the first q powers are written. Assumes nothing.
 use mathlib.Core.Path.{◌≡◌}
-use Prim.Native.Nat.{◌≤◌, ◌-◌}
 use lib.ListN.{length}
 use Rattle.numerics.specs.Fill.{filled}
 use Rattle.elementary.specs.Power.{powi_byte_of}
 use Rattle.gerg_composition.proofs.powers.powers_of.Given as goal
 
 abbrev pub invariant-loop-q : goal.invariant-loop-q
-invariant-loop-q l = (l.q ≤ 16) × (length l.initial.a ≡ 16) × (l.a ≡ filled (powi_byte_of l.delta) l.q l.initial.a)
-
-abbrev pub decreases-loop-q : goal.decreases-loop-q
-decreases-loop-q l = 16 - l.q
+invariant-loop-q l = (length l.initial.a ≡ 16) × (l.a ≡ filled (powi_byte_of l.delta) l.q l.initial.a)

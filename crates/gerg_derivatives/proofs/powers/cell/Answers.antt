@@ -16,10 +16,10 @@ returns-then-c-lt8 c = rw (lt-ltb _ _ c.if-c-lt8.true, ← c.signed_double.ensur
 
 pub returns-then-c-lt16 : goal.returns-then-c-lt16
 unfolding power_cell
-returns-then-c-lt16 c = rw (le-ltb _ _ c.if-c-lt8.false, lt-ltb _ _ c.if-c-lt16.true, c.wide.ensures, c.requires.2) (get_d_tabulate (damping_of _) 8 _ nan (omega arith))
+returns-then-c-lt16 c = rw (le-ltb _ _ c.if-c-lt8.false, lt-ltb _ _ c.if-c-lt16.true, c.from.ensures, c.requires.2) (get_d_tabulate (damping_of _) 8 _ nan (omega arith))
 
 pub returns : goal.returns
 unfolding power_cell
 returns c =
     rw (le-ltb _ _ c.if-c-lt8.false, le-ltb _ _ c.if-c-lt16.false)
-    (c.exp.ensures ∙ ap (λ (z : Float). exp_of (neg z)) (rw (c.wide-2.ensures, c.requires.2) (get_d_tabulate (damping_of _) 8 _ nan (omega arith))))
+    (c.exp.ensures ∙ ap (λ (z : Float). exp_of (neg z)) (rw (c.from-2.ensures, c.requires.2) (get_d_tabulate (damping_of _) 8 _ nan (omega arith))))

@@ -1,15 +1,18 @@
--- `gerg_equilibrium::saturation::pure_saturation` meets its contract. Assumes nothing.
+use Rattle.std.proofs.lemmas.Result.{err_from_is_err_and}
+use Rattle.gerg.specs.Helmholtz.{normal_range}
+use Rattle.gerg_ph.specs.Saturation.{pure_saturation_of}
+use Rattle.gerg_prepared.proofs.Called.{called_ok, called_err}
 use Rattle.gerg_equilibrium.specs.Equilibrium.{saturation_call}
-use mathlib.Core.Path.{refl, ◌∙◌}
-use Rattle.gerg_prepared.proofs.Laws.{call_ready, call_tables, call_mixed}
 use Rattle.gerg_equilibrium.proofs.saturation.pure_saturation.Goals as goal
 
-pub read_tables_into-answer-requires : goal.read_tables_into-answer-requires
-read_tables_into-answer-requires c = (refl, refl)
-
-pub saturation_from-requires : goal.saturation_from-requires
-saturation_from-requires c = λ h. call_ready _ _ _ _ _ c.read_tables_into-answer.ensures c.mixed-mixed.ensures h
+pub returns-in_err-mixed : goal.returns-in_err-mixed
+unfolding saturation_call
+returns-in_err-mixed c =
+    let p = err_from_is_err_and c.from_residual.result c.from_residual.ensures.1 in
+    called_err _ _ _ (λ t m. pure_saturation_of t m.model m.gradients normal_range c.args.target c.args.lo c.args.hi c.args.limit) c.prepare.ensures.answer c.in_err-mixed.was (rw (← p.2) p.1)
 
 pub returns : goal.returns
 unfolding saturation_call
-returns c = c.saturation_from.ensures ∙ rw (call_tables _ _ c.read_tables_into-answer.ensures, call_mixed _ _ _ _ _ c.read_tables_into-answer.ensures c.mixed-mixed.ensures)
+returns c =
+    called_ok _ _ _ (λ t m. pure_saturation_of t m.model m.gradients normal_range c.args.target c.args.lo c.args.hi c.args.limit) c.prepare.ensures.tables c.prepare.ensures.answer c.in_ok-mixed.was
+    (rw (← c.normal_range.ensures) c.pure_saturation.ensures)

@@ -1,26 +1,34 @@
 use native.Mathlib.Omega.{arith}
-use Rattle.numerics.specs.Iterate.{iter_begins}
-use mathlib.Core.Path.{◌∙◌}
-use Rattle.gerg_root_list.proofs.Laws.Keeping.{settles_turn, settles_all}
-use Rattle.gerg_root_list.proofs.Laws.Settled.{settled_none}
+use mathlib.Core.Path.{sym, ap, ◌∙◌}
+use Prim.Native.Nat.{◌+◌}
+use lib.ListN.{length}
+use Rattle.std.proofs.lemmas.Result.{err_from_is_err_and}
+use Rattle.gerg_scan_steps.specs.Answers.{leaves}
+use Rattle.gerg_root_list.proofs.Laws.Keeping.{kept_first, kept_more, kept_few, kept_refused, kept_all}
+use Rattle.gerg_flash.specs.SoughtRoots.{root_for}
 use Rattle.gerg_flash.proofs.settle.settle.Goals as goal
 
-pub loop-i-init : goal.loop-i-init
-loop-i-init c = (omega arith, c.requires.0, omega arith, c.requires.2, c.requires.3, settled_none _ _ ∙ iter_begins _ _)
+pub loop-found-init : goal.loop-found-init
+loop-found-init c = (omega (arith, ap length c.clear.ensures), kept_first _ _ c.args.scan.now _ c.clear.ensures)
 
-pub keep_step-s-requires : goal.keep_step-s-requires
-keep_step-s-requires c =
-    let t = c.loop-i in
-    (omega (arith, t.invariant.0, t.invariant.1, t.invariant.2, c.loop-i-test.true), t.invariant.3, t.invariant.4, c.requires.4, c.requires.5, c.requires.6)
+pub keep-requires : goal.keep-requires
+keep-requires c = omega (arith, c.loop-found.invariant.0, c.loop-found-test.true, c.deref-found-items.ensures.1)
 
-pub loop-i-preserved : goal.loop-i-preserved
-loop-i-preserved c =
-    let t = c.loop-i in
-    let k = c.keep_step-s.ensures in
-    let g = c.loop-i-test.true in
-    (omega (arith, g), t.invariant.1, omega (arith, t.invariant.2, k.most), k.heads, k.coefficients, settles_turn _ _ _ _ _ _ _ t.i _ _ _ _ _ _ _ g t.invariant.5 k)
+pub returns-in_err-keep : goal.returns-in_err-keep
+returns-in_err-keep c =
+    let t = c.loop-found in
+    let s = ap (λ z. leaves z c.keep.new.roots.items) (sym c.in_err-keep.was) ∙ c.keep.ensures in
+    let p = err_from_is_err_and c.from_residual.result c.from_residual.ensures.1 in
+    rw (p.1, p.2) (kept_refused _ _ c.args.scan.now (t.found-index + 1) _ (omega (arith, c.loop-found-test.true, ap length c.deref-found-items.ensures.0)) (kept_more _ _ c.args.scan.now t.found-index _ _ t.invariant.1 (rw c.deref-found-items.ensures.0 at s)))
+
+pub loop-found-preserved : goal.loop-found-preserved
+loop-found-preserved c =
+    let t = c.loop-found in
+    let s = ap (λ z. leaves z c.keep.new.roots.items) (sym c.in_ok-keep.was) ∙ c.keep.ensures in
+    let e = rw c.deref-found-items.ensures.0 at s in
+    (omega (arith, t.invariant.0, kept_few (root_for c.args.sought) c.args.sought.pressure c.args.scan.now t.found-index _ _ e), kept_more _ _ c.args.scan.now t.found-index _ _ t.invariant.1 e)
 
 pub returns : goal.returns
 returns c =
-    let t = c.loop-i in
-    record { is = settles_all _ _ c.args.scan c.args.densities.now _ t.i _ (omega (arith, t.invariant.0, c.loop-i-test.false)) (omega (arith, t.invariant.1, c.requires.1)) t.invariant.5; most = omega (arith, t.invariant.0, t.invariant.1, t.invariant.2); heads = t.invariant.3; coefficients = t.invariant.4 }
+    let t = c.loop-found in
+    kept_all _ _ c.args.scan.now t.found-index _ t.invariant.1 (omega (arith, c.loop-found-test.false, t.auto.found-index-end, ap length c.deref-found-items.ensures.0))

@@ -1,26 +1,23 @@
 use native.Mathlib.Omega.{arith}
-use Rattle.numerics.specs.Iterate.{iter_begins, iter_turn, iter_done}
-use lib.Ieee.{Float, nan}
-use lib.ListN.{take, get_or}
 use mathlib.Core.List.{List}
-use mathlib.Core.Path.{refl, ap, ◌∙◌}
-use Rattle.gerg_grid.specs.Grid.{kept, grid_of}
+use mathlib.Core.Path.{ap, ◌∙◌}
+use lib.Ieee.{nan}
+use lib.ListN.{length, get_or}
+use lib.Ieee.{Float}
+use Rattle.numerics.specs.Iterate.{iter_begins, iter_turn, iter_done}
+use Rattle.gerg_grid.specs.Grid.{sorted_points, kept, grid_of}
+use Rattle.gerg_grid.proofs.Laws.GridFew.{kept_more}
 use Rattle.gerg_grid.proofs.grid.grid.Goals as goal
 
-pub loop-k-init : goal.loop-k-init
-loop-k-init c = (omega arith, omega arith, λ h. omega arith, refl, c.sorted_points-sorted.ensures, iter_begins _ _)
+pub loop-x-init : goal.loop-x-init
+loop-x-init c = (omega (arith, ap length c.new-points.ensures), c.sorted_points-sorted.ensures, c.new-points.ensures ∙ iter_begins _ _)
 
-pub keep-n-requires : goal.keep-n-requires
-keep-n-requires c = (omega arith, c.loop-k.invariant.3)
-
-pub loop-k-preserved : goal.loop-k-preserved
-loop-k-preserved c =
-    let t = c.loop-k in
-    let k = c.keep-n.ensures in
-    (omega arith, omega arith, λ h. k.some, k.length, t.invariant.4, iter_turn _ _ _ t.invariant.5 (k.points ∙ ap (λ (l : List Float). kept (get_or l t.k nan) (take t.n t.points)) t.invariant.4))
+pub loop-x-preserved : goal.loop-x-preserved
+loop-x-preserved c =
+    let t = c.loop-x in
+    let e = c.keep.ensures ∙ ap (λ (l : List Float). kept (get_or l t.x-index nan) t.points.items) t.invariant.1 in
+    (omega (arith, t.invariant.0, ap length e, kept_more (get_or sorted_points t.x-index nan) t.points.items), t.invariant.1, iter_turn _ _ _ t.invariant.2 e)
 
 pub returns : goal.returns
 unfolding grid_of
-returns c =
-    let t = c.loop-k in
-    record { is = iter_done _ _ _ _ t.invariant.5 (omega arith); some = t.invariant.2 (omega arith); most = omega arith; length = t.invariant.3 }
+returns c = iter_done _ _ _ _ c.loop-x.invariant.2 (omega arith)

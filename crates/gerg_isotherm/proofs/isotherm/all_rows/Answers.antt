@@ -4,15 +4,11 @@ use Rattle.gerg_isotherm.specs.Isotherm.{all_rows}
 use Rattle.gerg_isotherm.proofs.isotherm.all_rows.Goals as goal
 
 pub loop-i-init : goal.loop-i-init
-loop-i-init c = (omega arith, iter_begins _ _)
-
-pub component_rows-requires : goal.component_rows-requires
-component_rows-requires c =
-    (omega arith, c.requires.0, c.requires.1)
+loop-i-init c = iter_begins _ _
 
 pub loop-i-preserved : goal.loop-i-preserved
-loop-i-preserved c = (omega arith, iter_turn _ _ _ c.loop-i.invariant.1 c.component_rows.ensures)
+loop-i-preserved c = iter_turn _ _ _ c.loop-i.invariant c.component_rows.ensures
 
 pub returns : goal.returns
 unfolding all_rows
-returns c = iter_done _ _ _ _ c.loop-i.invariant.1 (omega arith)
+returns c = iter_done _ _ _ _ c.loop-i.invariant (omega arith)

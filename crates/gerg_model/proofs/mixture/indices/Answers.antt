@@ -5,14 +5,11 @@ use native.Mathlib.Omega.{arith}
 use Rattle.gerg_model.proofs.mixture.indices.Goals as goal
 
 pub loop-k-init : goal.loop-k-init
-loop-k-init c = (omega arith, omega (arith, (c).requires.few), iter_begins _ _)
-
-pub overflow_sub-a : goal.overflow_sub-a
-overflow_sub-a c = omega (arith, c.requires.known c.loop-k.k c.loop-k-test.true)
+loop-k-init c = iter_begins _ _
 
 pub loop-k-preserved : goal.loop-k-preserved
-loop-k-preserved c = (omega arith, omega arith, iter_turn _ _ _ c.loop-k.invariant.2 refl)
+loop-k-preserved c = iter_turn _ _ _ c.loop-k.invariant refl
 
 pub returns : goal.returns
 unfolding indices_of
-returns c = iter_done _ _ _ _ c.loop-k.invariant.2 (omega arith)
+returns c = iter_done _ _ _ _ c.loop-k.invariant (omega arith)

@@ -4,11 +4,11 @@ use native.Mathlib.Omega.{arith}
 use Rattle.gerg_model.proofs.mixture.molar_mass.Goals as goal
 
 pub loop-i-init : goal.loop-i-init
-loop-i-init c = (omega arith, iter_begins _ _)
+loop-i-init c = iter_begins _ _
 
 pub loop-i-preserved : goal.loop-i-preserved
-loop-i-preserved c = (omega arith, iter_turn _ _ _ c.loop-i.invariant.1 (cc))
+loop-i-preserved c = iter_turn _ _ _ c.loop-i.invariant (cc)
 
 pub returns : goal.returns
 unfolding molar_mass
-returns c = iter_done _ _ _ _ c.loop-i.invariant.1 (omega arith)
+returns c = iter_done _ _ _ _ c.loop-i.invariant (omega arith)

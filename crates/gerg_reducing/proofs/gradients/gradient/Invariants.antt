@@ -1,12 +1,8 @@
 -- `gerg_reducing::gradients::gradient` meets its contract. The invariant: what the first i rows of pairs left. Assumes nothing.
 use mathlib.Core.Path.{◌≡◌}
-use Prim.Native.Nat.{◌≤◌, ◌-◌}
 use Rattle.numerics.specs.Iterate.{iter}
-use Rattle.gerg_reducing.specs.Reducing.{gradient_row}
+use Rattle.gerg_reducing.specs.Reducing.{row_of, gradient_row}
 use Rattle.gerg_reducing.proofs.gradients.gradient.Given as goal
 
 abbrev pub invariant-loop-i : goal.invariant-loop-i
-invariant-loop-i l = (l.i ≤ 21) × (l.h ≡ iter (gradient_row l.doubles l.x l.row) l.i l.initial.h)
-
-abbrev pub decreases-loop-i : goal.decreases-loop-i
-decreases-loop-i l = 21 - l.i
+invariant-loop-i l = l.h ≡ iter (gradient_row l.doubles l.x (row_of l.reduced)) l.i l.initial.h

@@ -4,11 +4,11 @@ use native.Mathlib.Omega.{arith}
 use Rattle.gerg_reducing.proofs.gradients.gradient_row.Goals as goal
 
 pub loop-j-init : goal.loop-j-init
-loop-j-init c = (omega arith, omega arith, range_begins _ _ _)
+loop-j-init c = range_begins _ _ _
 
 pub loop-j-preserved : goal.loop-j-preserved
-loop-j-preserved c = (omega arith, omega arith, range_turn _ _ _ _ (omega arith) c.loop-j.invariant.2 c.gradient_pair.ensures)
+loop-j-preserved c = range_turn _ _ _ _ (omega arith) c.loop-j.invariant c.gradient_pair.ensures
 
 pub returns : goal.returns
 unfolding gradient_row
-returns c = range_done _ _ _ _ _ c.loop-j.invariant.2 (omega arith)
+returns c = range_done _ _ _ _ _ c.loop-j.invariant (omega arith)

@@ -1,12 +1,8 @@
 -- `gerg_reducing::gradients::gradient_row` meets its contract. The invariant: what the pairs from i up to j left. Assumes nothing.
 use mathlib.Core.Path.{◌≡◌}
-use Prim.Native.Nat.{◌≤◌, ◌-◌}
 use Rattle.numerics.specs.Iterate.{range}
-use Rattle.gerg_reducing.specs.Reducing.{gradient_pair}
+use Rattle.gerg_reducing.specs.Reducing.{row_of, gradient_pair}
 use Rattle.gerg_reducing.proofs.gradients.gradient_row.Given as goal
 
 abbrev pub invariant-loop-j : goal.invariant-loop-j
-invariant-loop-j l = (l.i ≤ l.j) × (l.j ≤ 21) × (l.gradient ≡ range (gradient_pair l.doubles l.x l.row l.i) l.i l.j l.initial.gradient)
-
-abbrev pub decreases-loop-j : goal.decreases-loop-j
-decreases-loop-j l = 21 - l.j
+invariant-loop-j l = l.gradient ≡ range (gradient_pair l.doubles l.x (row_of l.reduced) l.i) l.i l.j l.initial.gradient

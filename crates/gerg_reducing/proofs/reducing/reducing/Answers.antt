@@ -4,11 +4,11 @@ use native.Mathlib.Omega.{arith}
 use Rattle.gerg_reducing.proofs.reducing.reducing.Goals as goal
 
 pub loop-i-init : goal.loop-i-init
-loop-i-init c = (omega arith, iter_begins _ _)
+loop-i-init c = iter_begins _ _
 
 pub loop-i-preserved : goal.loop-i-preserved
-loop-i-preserved c = (omega arith, iter_turn _ _ _ c.loop-i.invariant.1 c.reducing_row-sum.ensures)
+loop-i-preserved c = iter_turn _ _ _ c.loop-i.invariant c.reducing_row-sum.ensures
 
 pub returns : goal.returns
 unfolding reducing
-returns c = iter_done _ _ _ _ c.loop-i.invariant.1 (omega arith)
+returns c = iter_done _ _ _ _ c.loop-i.invariant (omega arith)

@@ -1,20 +1,15 @@
 use native.Mathlib.Omega.{arith}
-use Rattle.numerics.specs.Iterate.{iter_begins, iter_turn, iter_done}
+use mathlib.Core.Path.{◌∙◌}
 use lib.Dec.{leb}
-use Prim.Native.Nat.{ℕ}
-use mathlib.Core.Bool.{◌||◌}
-use mathlib.Core.Path.{ap}
+use Rattle.std.proofs.Common.{rules, tests}
+use Rattle.std.proofs.lemmas.Iterator.{YieldsList-from_slice}
+use Rattle.std.proofs.lemmas.Iterator.Search.{any_from_yields_List}
 use Rattle.gerg_root_list.specs.RootList.{beyond_five}
+use Rattle.gerg_root_list.proofs.Laws.FirstFive.{any_first}
 use Rattle.gerg_root_list.proofs.envelope.beyond_five.Goals as goal
-
-pub loop-k-init : goal.loop-k-init
-loop-k-init c = (omega arith, c.requires.few, iter_begins _ _)
-
-pub loop-k-preserved : goal.loop-k-preserved
-loop-k-preserved c =
-    let t = c.loop-k in
-    (omega arith, t.invariant.1, iter_turn _ _ _ t.invariant.2 (ap (λ (i : ℕ). t.beyond || leb 5 i) c.wide-index.ensures))
 
 pub returns : goal.returns
 unfolding beyond_five
-returns c = iter_done _ _ _ _ c.loop-k.invariant.2 (omega arith)
+returns c =
+    let e = any_from_yields_List (leb 5) _ _ _ c.any.ensures.ran (YieldsList-from_slice _ c.iter.ensures.rest) (λ x b q k. search (rules, tests)) in
+    e ∙ any_first c.args.model.now.component_indices c.args.model.now.components (omega arith)

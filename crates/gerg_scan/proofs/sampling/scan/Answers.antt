@@ -1,44 +1,38 @@
+use Prim.Native.Nat.{◌+◌}
 use native.Mathlib.Omega.{arith}
-use Rattle.gerg_scan_steps.proofs.Laws.ScanSteps.{scans_begin, scans_turn, scans_done}
+use mathlib.Core.Path.{sym, ap, ◌∙◌}
+use Rattle.std.proofs.lemmas.Result.{err_from_is_err_and}
+use Rattle.gerg_scan_steps.specs.Answers.{leaves}
+use Rattle.gerg_scan_steps.proofs.Laws.Loops.{scanned_first, rest_length, scanned_more, scanned_refused, scanned_all}
+use Rattle.gerg_scan_steps.proofs.Laws.ScanFew.{begun_few, step_few}
+use Rattle.gerg_scan.specs.Sought.{sample_for}
 use Rattle.gerg_scan.proofs.sampling.scan.Goals as goal
 
-pub sample-v-requires : goal.sample-v-requires
-sample-v-requires c = (c.requires.5, c.requires.6)
+pub returns-in_err-scan : goal.returns-in_err-scan
+returns-in_err-scan c =
+    let p = err_from_is_err_and c.from_residual.result c.from_residual.ensures.1 in
+    rw (p.1, p.2) (scanned_refused _ _ c.args.grid.now 1 _ c.requires.0 (scanned_first _ _ _ _ (sym c.in_err-scan.was ∙ c.begun.ensures ∙ rw c.sample.ensures)))
 
-pub loop-i-init : goal.loop-i-init
-loop-i-init c =
-    (omega arith, omega (arith, c.requires.0), omega (arith, c.begun-s.ensures.1), c.requires.3, c.requires.4, scans_begin _ _ c.args.points.now c.args.count _ _ _ _ c.requires.0 c.sample-v.ensures (c.begun-s.ensures.0 _ _))
+pub loop-point-init : goal.loop-point-init
+loop-point-init c =
+    let s = sym c.in_ok-scan.was ∙ c.begun.ensures in
+    (begun_few (sample_for c.args.sought) c.args.sought.pressure _ _ _ s, scanned_first _ _ _ _ (s ∙ rw c.sample.ensures))
 
-pub offset_bounds-points-i : goal.offset_bounds-points-i
-offset_bounds-points-i c = omega (arith, c.loop-i-test.true, c.requires.1)
+pub returns-in_err-step : goal.returns-in_err-step
+returns-in_err-step c =
+    let t = c.loop-point in
+    let s = ap (λ z. leaves z c.step.new.scan) (sym c.in_err-step.was) ∙ c.step.ensures in
+    let p = err_from_is_err_and c.from_residual-in_err-step.result c.from_residual-in_err-step.ensures.1 in
+    rw (p.1, p.2)
+    (scanned_refused _ _ c.args.grid.now (t.point-index + 1 + 1) _ (omega (arith, rest_length c.args.grid.now c.requires.0, c.loop-point-test.true)) (scanned_more _ _ _ _ _ _ c.loop-point-test.true t.invariant.1 s))
 
-pub bounds-points-i : goal.bounds-points-i
-bounds-points-i c = omega (arith, c.loop-i-test.true, c.requires.1)
-
-pub scan_step-s-requires : goal.scan_step-s-requires
-scan_step-s-requires c =
-    let t = c.loop-i in
-    (omega (arith, t.invariant.2, c.loop-i-test.true, c.requires.1), t.invariant.3, t.invariant.4, c.requires.5, c.requires.6)
-
-pub overflow_add-i : goal.overflow_add-i
-overflow_add-i c = omega (arith, c.loop-i-test.true, c.requires.1)
-
-pub loop-i-smaller : goal.loop-i-smaller
-loop-i-smaller c = omega (arith, c.loop-i-test.true)
-
-pub loop-i-preserved : goal.loop-i-preserved
-loop-i-preserved c =
-    let t = c.loop-i in
-    let k = c.scan_step-s.ensures in
-    let g = c.loop-i-test.true in
-    (omega (arith, t.invariant.0), omega (arith, g), omega (arith, t.invariant.2, k.most), k.densities, k.residuals, scans_turn _ _ _ _ t.i _ _ _ _ _ _ _ t.invariant.0 g t.invariant.5 k)
+pub loop-point-preserved : goal.loop-point-preserved
+loop-point-preserved c =
+    let t = c.loop-point in
+    let s = ap (λ z. leaves z c.step.new.scan) (sym c.in_ok-step.was) ∙ c.step.ensures in
+    (omega (arith, t.invariant.0, step_few _ _ _ _ _ s), scanned_more _ _ _ _ _ _ c.loop-point-test.true t.invariant.1 s)
 
 pub returns : goal.returns
 returns c =
-    let t = c.loop-i in
-    record {
-      is = scans_done _ _ c.args.points.now c.args.count t.i _ (omega (arith, t.invariant.1, c.loop-i-test.false)) (omega (arith, c.requires.1, c.requires.2)) t.invariant.5;
-      most = omega (arith, t.invariant.1, t.invariant.2, c.requires.1);
-      densities = t.invariant.3;
-      residuals = t.invariant.4;
-    }
+    let t = c.loop-point in
+    scanned_all _ _ _ (t.point-index + 1) _ t.invariant.1 (omega (arith, rest_length c.args.grid.now c.requires.0, c.loop-point-test.false, t.auto.point-index-end))

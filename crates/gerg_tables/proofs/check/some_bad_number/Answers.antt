@@ -1,19 +1,10 @@
-use mathlib.Core.Path.{refl, sym}
-use Rattle.gerg_tables.specs.Check.{some_bad_number}
-use Rattle.gerg_tables.proofs.Some.{go, stop, done}
-use native.Mathlib.Omega.{arith}
+use borrow.Author.Rules.{rules}
+use borrow.Author.Tests.{tests}
+use Prim.Native.Nat.{◌+◌}
+use Rattle.gerg_tables.specs.Check.{some_from, bad_number, some_bad_number}
+use Rattle.gerg_tables.proofs.Some.{any_from}
 use Rattle.gerg_tables.proofs.check.some_bad_number.Goals as goal
-
-pub loop-i-init : goal.loop-i-init
-loop-i-init c = (omega arith, refl)
-
-pub returns-then-some_bad_number_row : goal.returns-then-some_bad_number_row
-unfolding some_bad_number
-returns-then-some_bad_number_row c = sym (stop _ _ c.loop-i.invariant.1 c.loop-i-test.true c.some_bad_number_row.ensures c.if-some_bad_number_row.true)
-
-pub loop-i-preserved : goal.loop-i-preserved
-loop-i-preserved c = (omega arith, go _ _ c.loop-i.invariant.1 c.loop-i-test.true c.some_bad_number_row.ensures c.if-some_bad_number_row.false)
 
 pub returns : goal.returns
 unfolding some_bad_number
-returns c = sym (done _ _ c.loop-i.invariant.1 c.loop-i-test.false)
+returns c = any_from (λ i. some_from (bad_number c.args.integers.now c.args.count i) (i + 1)) 0 c.any.ensures.ran (λ x b q k. search (rules, tests))

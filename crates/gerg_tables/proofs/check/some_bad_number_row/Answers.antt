@@ -1,16 +1,9 @@
-use mathlib.Core.Path.{refl, sym}
-use Rattle.gerg_tables.proofs.Some.{go, stop, done}
-use native.Mathlib.Omega.{arith}
+use borrow.Author.Rules.{rules}
+use borrow.Author.Tests.{tests}
+use Prim.Native.Nat.{◌+◌}
+use Rattle.gerg_tables.specs.Check.{bad_number}
+use Rattle.gerg_tables.proofs.Some.{any_from}
 use Rattle.gerg_tables.proofs.check.some_bad_number_row.Goals as goal
 
-pub loop-j-init : goal.loop-j-init
-loop-j-init c = (omega arith, refl)
-
-pub returns-then-bad_number : goal.returns-then-bad_number
-returns-then-bad_number c = sym (stop _ _ c.loop-j.invariant.1 c.loop-j-test.true c.bad_number.ensures c.if-bad_number.true)
-
-pub loop-j-preserved : goal.loop-j-preserved
-loop-j-preserved c = (omega arith, go _ _ c.loop-j.invariant.1 c.loop-j-test.true c.bad_number.ensures c.if-bad_number.false)
-
 pub returns : goal.returns
-returns c = sym (done _ _ c.loop-j.invariant.1 c.loop-j-test.false)
+returns c = any_from (bad_number c.args.integers.now c.args.count c.args.i) (c.args.i + 1) c.any.ensures.ran (λ x b q k. search (rules, tests))

@@ -3,21 +3,19 @@ use Rattle.numerics.specs.Iterate.{iter_begins, iter_turn, iter_done}
 use Rattle.gerg_terms.specs.Terms.{departure_terms}
 use Rattle.gerg_terms.proofs.departure.departure_terms.Goals as goal
 
-pub overflow_add-n : goal.overflow_add-n
-overflow_add-n c =
-    omega (arith, c.requires.1.departures c.args.function.m c.requires.0)
-
 pub loop-k-init : goal.loop-k-init
-loop-k-init c =
-    (omega arith, omega (arith, c.requires.1.departures c.args.function.m c.requires.0), iter_begins _ _)
+loop-k-init c = (c.departure_terms-n.ensures.room, c.departure_terms-n.ensures.count, iter_begins _ _)
 
 pub departure_term-sum-requires : goal.departure_term-sum-requires
 departure_term-sum-requires c =
-    (c.requires.0, omega arith, c.requires.2, c.requires.3 c.loop-k.k (omega arith))
+    let l = c.loop-k in
+    (c.requires.0, omega (arith, l.invariant.0), c.requires.1 l.k (omega (arith, l.invariant.1)))
 
 pub loop-k-preserved : goal.loop-k-preserved
-loop-k-preserved c = (omega arith, omega arith, iter_turn _ _ _ c.loop-k.invariant.2 c.departure_term-sum.ensures)
+loop-k-preserved c =
+    let l = c.loop-k in
+    (l.invariant.0, l.invariant.1, iter_turn _ _ _ l.invariant.2 c.departure_term-sum.ensures)
 
 pub returns : goal.returns
 unfolding departure_terms
-returns c = iter_done _ _ _ _ c.loop-k.invariant.2 (omega arith)
+returns c = iter_done _ _ _ _ c.loop-k.invariant.2 (omega (arith, c.loop-k.invariant.1))

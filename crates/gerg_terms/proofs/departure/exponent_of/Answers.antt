@@ -13,17 +13,17 @@ no_exponent : +0 ⊕ +0 ⊕ +0 ≡ +0
 unfolding add of_bits
 no_exponent = refl
 
-pub returns-then-k-wide : goal.returns-then-k-wide
+pub returns-then-k-from : goal.returns-then-k-from
 unfolding exponent_of
-returns-then-k-wide c = rw (← c.kpolij.ensures, ← c.wide.ensures, lt-ltb _ _ c.if-k-wide.true, ap exp_of no_exponent ∙ exp_zero)
+returns-then-k-from c = rw (← c.kpolij.ensures, ← c.from.ensures, lt-ltb _ _ c.if-k-from.true, ap exp_of no_exponent ∙ exp_zero)
 
 pub returns : goal.returns
 unfolding exponent_of
 returns c =
     rw (
       ← c.kpolij.ensures,
-      ← c.wide.ensures,
-      le-ltb _ _ c.if-k-wide.false,
+      ← c.from.ensures,
+      le-ltb _ _ c.if-k-from.false,
       ← c.cijk.ensures,
       ← c.eijk.ensures,
       ← c.gijk-g.ensures,

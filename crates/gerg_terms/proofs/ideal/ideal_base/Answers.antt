@@ -1,13 +1,20 @@
 -- `gerg_terms::ideal::ideal_base` meets its contract: the callee's equation, with what the cells hold. Assumes nothing.
 use native.Mathlib.Omega.{arith}
 use mathlib.Core.Path.{◌∙◌}
+use Prim.Native.Nat.{◌+◌, ◌*◌}
+use lib.Ieee.{nan}
+use lib.ListN.{get_or}
 use Rattle.gerg_terms.specs.Terms.{ideal_base}
 use Rattle.gerg_isotherm.specs.Isotherm.{base_cell}
+use Rattle.gerg_isotherm.proofs.Laws.Lent.{lent_rows}
 use Rattle.gerg_isotherm.proofs.Laws.Rows.{row_first}
 use Rattle.gerg_terms.proofs.ideal.ideal_base.Goals as goal
 
 pub returns : goal.returns
 unfolding ideal_base base_cell
 returns c =
+    let t = c.args.point.isotherm in
+    let cell = base_cell t.coefficients.doubles.now (get_or t.model.now.fractions c.args.i nan) t.temperature c.args.i in
+    let row = ((lent_rows t).ideal c.args.i c.requires.0 c.requires.1).base in
     c.added.ensures ∙
-    rw (row_first _ _ 2 _ c.requires.2, c.requires.2 1 (omega arith), c.requires.2 2 (omega arith), c.n0i-n3.ensures, c.n0i-n1.ensures, c.requires.1)
+    rw (row_first cell (624 + 15 * c.args.i) 2 t.cells.now row, row 1 (omega arith), row 2 (omega arith), c.n0i-n3.ensures, c.n0i-n1.ensures, c.args.point.logarithm_is)

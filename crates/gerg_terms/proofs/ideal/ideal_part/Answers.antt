@@ -1,15 +1,16 @@
--- `gerg_terms::ideal::ideal_part` meets its contract: the calls' equations, last call first. Assumes nothing.
-use mathlib.Core.Path.{◌∙◌}
-use Rattle.gerg_terms.specs.Terms.{ideal_part}
+-- `gerg_terms::ideal::ideal_part` meets its contract: what each part asks of the isotherm. Assumes nothing.
+use native.Mathlib.Omega.{arith}
+use Rattle.gerg_isotherm.proofs.Laws.Lent.{lent_rows}
 use Rattle.gerg_terms.proofs.ideal.ideal_part.Goals as goal
 
-pub returns : goal.returns
-unfolding ideal_part
-returns c =
-    c.cosh_part.ensures ∙
-    rw (
-      c.sinh_part-to_6.ensures,
-      c.cosh_part-to_5.ensures,
-      c.sinh_part-to_4.ensures,
-      c.ideal_base-base.ensures,
-    )
+pub ideal_term-to_4-requires : goal.ideal_term-to_4-requires
+ideal_term-to_4-requires c = (c.requires.0, omega arith, omega arith, ((lent_rows c.args.point.isotherm).ideal _ c.requires.0 c.requires.1).sinh₀)
+
+pub ideal_term-to_5-requires : goal.ideal_term-to_5-requires
+ideal_term-to_5-requires c = (c.requires.0, omega arith, omega arith, ((lent_rows c.args.point.isotherm).ideal _ c.requires.0 c.requires.1).cosh₁)
+
+pub ideal_term-to_6-requires : goal.ideal_term-to_6-requires
+ideal_term-to_6-requires c = (c.requires.0, omega arith, omega arith, ((lent_rows c.args.point.isotherm).ideal _ c.requires.0 c.requires.1).sinh₂)
+
+pub ideal_term-requires : goal.ideal_term-requires
+ideal_term-requires c = (c.requires.0, omega arith, omega arith, ((lent_rows c.args.point.isotherm).ideal _ c.requires.0 c.requires.1).cosh₃)

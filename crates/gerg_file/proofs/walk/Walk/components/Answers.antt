@@ -1,7 +1,0 @@
-use Rattle.gerg_file.proofs.walk.Walk.components.Goals as goal
-
-pub returns-in-To : goal.returns-in-To
-returns-in-To c = rw c.in-To.is c.counted_run.ensures
-
-pub returns-in-Bad : goal.returns-in-Bad
-returns-in-Bad c = rw c.in-Bad.is

@@ -1,0 +1,4 @@
+pub mod Refusal
+pub mod Text
+pub mod Answer
+pub mod Code
