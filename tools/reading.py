@@ -133,6 +133,8 @@ class Source:
             self.contracts.append((m[4], bool(m[2]), bool(m[3]), m[5]))
         # what an impl states of a value, as what it is printed as
         self.contracts += [(m[1], True, False, m[2]) for m in re.finditer(r"^    ghost (\w+) = \{(.*?)\};$", plain, re.M | re.S)]
+        # and what the ghost fields of a struct say, which is asked of whoever makes one
+        self.contracts += [(m[1], False, False, m[2]) for m in re.finditer(r"^    (?:pub )?ghost (\w+): \{(.*?)\},$", plain, re.M | re.S)]
         # the crate that each type of another one is taken from
         self.taken = {word: m[1] for m in re.finditer(r"^use (\w+)::((?:[^;])+);", plain, re.M) for word in re.findall(r"\w+", m[2])}
 

@@ -1,5 +1,6 @@
 -- The calls `read_list` and `write_list`: what they answer, and what they leave in lent memory.
-use Rattle.std.specs.Prelude.{Bool, not, ◌||◌, List, ℕ, eqb, ltb, Float, length, Result, Ok, Err}
+use Rattle.std.specs.Prelude.{Bool, not, ◌||◌, List, ℕ, eqb, ltb, Float, length, Option, Result, Ok, Err}
+use Rattle.std.specs.Bool.{then_some}
 use Rattle.std.proofs.lemmas.List.Edits.{sets}
 use Rattle.numerics.specs.Double.{pick}
 use Rattle.numerics.specs.Loop.{filled}
@@ -17,6 +18,10 @@ bad_place list = first_place (bad_number list) (length list) 0
 
 unfoldable pub bad_list : List ℕ → Bool
 bad_list list = eqb (length list) 0 || ltb (bad_place list) (length list)
+
+-- row 3's place, if it refuses the list: that of an empty list is 0
+unfoldable pub row_3 : List ℕ → Option ℕ
+row_3 list = then_some (bad_list list) (bad_place list)
 
 -- `read_list`, where so many places for components, parts and fractions are lent: "28 .. tested before row 3; 29 .. after rows 3 and 4"; "short lent answers row 24 (places .. needed ..), tested last"
 unfoldable pub read_answer : List ℕ → ℕ → ℕ → ℕ → Result ℕ Refusal

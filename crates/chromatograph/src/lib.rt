@@ -2,4 +2,5 @@
 #![tactic(auto)]
 
 pub mod reader;
+mod row_3;
 pub mod writer;

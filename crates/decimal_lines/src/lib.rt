@@ -4,6 +4,7 @@
 ghost use Rattle.std.specs.Prelude.{Some};
 ghost use Rattle.decimal_lines.specs.Line.{line_text, count_lines_text};
 
+use gerg_refusals::Refusal;
 use std::fmt;
 
 // Two numbers on a line.
@@ -11,6 +12,21 @@ use std::fmt;
 pub struct Line {
     pub number: u64,
     pub value: u64,
+}
+
+// The line of a refusal: its number and value, which has no `From` into 64 bits.
+impl From<Refusal> for Line {
+    ghost use Rattle.std.specs.Prelude.{◌≡◌};
+    ghost use Rattle.gerg_refusals.specs.Refusal.{number_of, value_of};
+
+    ghost from_gives = { λ r line. line ≡ record { number = number_of r; value = value_of r } };
+
+    fn from(refusal: Refusal) -> Line {
+        Line {
+            number: u64::from(refusal.number()),
+            value: refusal.value() as u64,
+        }
+    }
 }
 
 impl fmt::Display for Line {
@@ -22,6 +38,9 @@ impl fmt::Display for Line {
     }
 }
 
+// The first number that has a line.
+const FIRST: usize = 1;
+
 // The lines of the numbers from 1 on whose counts are not 0; the first of the counts is that of number 0.
 #[derive(Clone, Copy)]
 pub struct CountLines<'a>(pub &'a [u64]);
@@ -31,11 +50,14 @@ impl fmt::Display for CountLines<'_> {
 
     fn fmt<W: fmt::Write>(&self, f: &mut fmt::Formatter<W>) -> fmt::Result {
         let counts = self.0;
-        for number in 1..counts.len() {
-            let value = counts[number];
-            if value != 0 {
-                let number = number as u64;
-                write!(f, "{}", Line { number, value })?;
+        for (number, value) in counts.iter().enumerate() {
+            if FIRST <= number && *value != 0 {
+                // A `usize` has no `From` into 64 bits.
+                let line = Line {
+                    number: number as u64,
+                    value: *value,
+                };
+                write!(f, "{line}")?;
             }
         }
         Ok(())

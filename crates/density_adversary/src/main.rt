@@ -3,10 +3,12 @@
 #![tactic(auto)]
 
 use gerg_refusals::Refusal;
-use gerg_search::{Bracket, Options, Sample, Search, Stage, Step, point, steps};
+use gerg_search::{Options, Sample, Search, Stage, Step, point, steps};
+use interval::Interval;
 use std::{fmt, io};
 
-// How a driven search ended: with how many trials, or not within `STEPS` steps.
+// How a driven search ended: with how many trials, or not within `STEPS` steps. An enum of three: a search that is not over is neither
+// accepted nor refused, and `Display` needs a type of this crate.
 #[derive(Clone, Copy)]
 enum Ended {
     Accepted { trials: usize },
@@ -27,19 +29,18 @@ impl fmt::Display for Ended {
     }
 }
 
-// The stiffness that sets Newton's point a part of the width below rho, which becomes the high end.
-fn stiffness(lo: f64, rho: f64, part: f64) -> f64 {
-    1.0 / (part * (rho - lo))
+// The stiffness that sets Newton's point a part of the width below the high end, which is the density being tried.
+fn stiffness(b: Interval, part: f64) -> f64 {
+    1.0 / (part * (b.hi - b.lo))
 }
 
-fn lands(lo: f64, rho: f64, part: f64) -> bool {
-    let bracket = Bracket { lo, hi: rho };
-    point::inside(bracket, rho - 1.0 / stiffness(lo, rho, part))
+fn lands(b: Interval, part: f64) -> bool {
+    point::inside(b, b.hi - 1.0 / stiffness(b, part))
 }
 
-// The verdict that keeps what lies below rho and sets Newton's point as little inside the margin below rho as rounding allows: nine
+// The verdict that keeps what lies below the high end and sets Newton's point as little inside the margin below it as rounding allows: nine
 // tenths of the width are left each time, down to the low end, where doubles are densest.
-fn widest(lo: f64, rho: f64) -> Sample {
+fn widest(b: Interval) -> Sample {
     let parts = [
         0.1,
         0.1000000000001,
@@ -52,16 +53,19 @@ fn widest(lo: f64, rho: f64) -> Sample {
     ];
     let part = parts
         .into_iter()
-        .find(|part| lands(lo, rho, *part))
+        .find(|part| lands(b, *part))
         .unwrap_or(0.25);
-    Ok((1.0, stiffness(lo, rho, part)))
+    Ok((1.0, stiffness(b, part)))
 }
 
 fn verdict(search: Search) -> Sample {
     match search.stage {
         Stage::Low => Ok((-1.0, 1.0)),
         Stage::High => Ok((1.0, 1.0)),
-        Stage::Interior => widest(search.bracket.lo, search.density),
+        Stage::Interior => widest(Interval {
+            hi: search.density,
+            ..search.bracket
+        }),
     }
 }
 
@@ -100,7 +104,7 @@ fn main(rt: HostRuntime) -> io::Result<()> {
         (1.0000000000000002, 1.0000000000000004, 1),
     ];
     for (lo, hi, limit) in searches {
-        let bracket = Bracket { lo, hi };
+        let bracket = Interval { lo, hi };
         rt.println(drive(Options {
             bracket,
             limit,

@@ -16,6 +16,7 @@ use elementary_sqrt::sqrt;
 pub fn quieted(x: f64) -> f64
     ensures { result ≡ x }
 {
+    // The test of `exp`'s definition.
     if x != x {
         return 0.0 / 0.0;
     }

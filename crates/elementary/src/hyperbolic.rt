@@ -1,5 +1,7 @@
 // sinh, cosh and tanh by the exponential. sinh and cosh differ in one operation; a function that took it as a closure would be longer than the two.
 
+#![tactic(auto, unfolding(crate::specs::Hyperbolic::sinh_of, crate::specs::Hyperbolic::cosh_of, crate::specs::Hyperbolic::tanh_of))]
+
 ghost use Rattle.std.specs.Prelude.{◌≡◌};
 ghost use Rattle.elementary.specs.Hyperbolic.{sinh_of, cosh_of, tanh_of};
 

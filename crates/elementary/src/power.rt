@@ -36,6 +36,7 @@ fn power(x: f64, n: u32) -> f64
     let mut r = 1.0;
     let mut b = x;
     let mut m = n;
+    // A turn for each binary digit of n up to its highest: a `for` over all 32 would go on squaring b after that.
     while m != 0 {
         if m % 2 == 1 {
             r = r * b;

@@ -1,4 +1,4 @@
-// The C exports of the elementary functions: each calls `elementary`'s and states its clause again.
+// The C exports of the elementary functions: each calls `elementary`'s and states its clause again. A crate of its own, since no crate can depend on a static library.
 #![tactic(auto)]
 
 ghost use Rattle.std.specs.Prelude.{◌≡◌};

@@ -89,6 +89,7 @@ fn scaled_entry(j: u64, n: u64) -> f64
 }
 
 // e ^ r - 1 to degree 6
+#[tactic(auto, unfolding(crate::specs::Exp::polynomial_of))]
 fn polynomial(r: f64) -> f64
     ensures { result ≡ polynomial_of r }
 {
@@ -100,6 +101,7 @@ fn polynomial(r: f64) -> f64
     r * p
 }
 
+#[tactic(auto, unfolding(crate::specs::Exp::remainder_of))]
 fn remainder(x: f64, w: f64) -> f64
     ensures { result ≡ remainder_of x w }
 {
@@ -121,6 +123,7 @@ fn within(x: f64) -> f64
 pub fn exp(x: f64) -> f64
     ensures { result ≡ exp_of x }
 {
+    // The definition's own test.
     if x != x {
         return 0.0 / 0.0;
     }

@@ -141,6 +141,7 @@ fn log_node(i: u64) -> f64
 }
 
 // ln ((1 + s) / (1 - s)) by its terms up to s^7.
+#[tactic(auto, unfolding(crate::specs::Ln::ln_ratio))]
 fn ln_ratio(s: f64) -> f64
     ensures { result ≡ ln_ratio s }
 {
@@ -165,6 +166,7 @@ fn ln_parts(e: u64, t: u64) -> f64
     requires t_bound { t < 2 ^ 52 }
     ensures { result ≡ ln_parts e t }
 {
+    // The cast is exact, as e is below 2^53; std has no `f64::from` of a u64.
     let n = e as f64;
     (n - 1087.0) * 0.6931471805599453 + ln_significand(t)
 }

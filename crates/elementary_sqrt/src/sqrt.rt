@@ -1,5 +1,6 @@
 // The square root: the whole number nearest to the significand's root, the exponent halved. An estimate by Newton's steps is tested exactly;
 // where the test fails, the root is found digit by digit. So nothing has to be known of the estimate.
+// The bounds in the clauses are bounds of plain numbers: a type for each would be made and opened in every line of arithmetic.
 
 ghost use Rattle.std.specs.Prelude.{◌≡◌, true, ◌*◌, ◌^◌, ◌≤◌, ◌<◌};
 ghost use Rattle.elementary_sqrt.specs.Sqrt.{root_of, nearest_root, shift_of, significand_of, exponent_of, root_bits, sqrt_of};

@@ -1,5 +1,5 @@
 // A generator of states that anyone can make again from its seed: a word of 64 bits that each draw changes by shifts, and a counter that is added to it.
-#![tactic(auto)]
+#![tactic(auto, unfolding(crate::specs::Generator::xorshift, crate::specs::Generator::next_of, crate::specs::Generator::drawn_of, crate::specs::Generator::unit_of, crate::specs::Generator::temperature_of, crate::specs::Generator::density_of, crate::specs::Generator::drawn_state_of))]
 
 ghost use Rattle.std.specs.Prelude.{◌≡◌, ◌*◌};
 ghost use Rattle.generator.specs.Generator as is;
@@ -17,7 +17,7 @@ pub struct State {
     pub density: f64,
 }
 
-// A state and the generator after its two draws.
+// A state and the generator after its two draws. By value, as `states_from` has it: each state is drawn from the generator that the one before left.
 #[derive(Clone, Copy)]
 pub struct DrawnState {
     pub state: State,
@@ -47,7 +47,7 @@ fn drawn(g: Generator) -> u64
     g.word.wrapping_add(g.counter)
 }
 
-// The word's top 53 bits over 2^53: exact.
+// The word's top 53 bits over 2^53: exact. So is the cast of a whole number below 2^53; std has no `f64::from` of a u64.
 fn unit(word: u64) -> f64
     ensures { result ≡ is.unit_of word }
 {

@@ -2,6 +2,7 @@
 pub mod Admitted
 pub mod Answered
 pub mod Numbers
+pub mod NoValue
 pub mod Within
 pub mod Cases
 pub mod Inside

@@ -12,6 +12,7 @@ use Rattle.gerg.specs.declared.Range.{Range}
 use Rattle.gerg_derivatives.specs.declared.derivatives.GergDerivatives.{GergDerivatives}
 use Rattle.gerg.specs.declared.evaluate.Parts.{Parts}
 use Rattle.gerg.specs.Helmholtz.{helmholtz_of}
+use Rattle.gerg_refusals.specs.Answer.{and_then}
 use Rattle.gerg_refusals.specs.declared.Refusal.{Refusal}
 use Rattle.gerg_refusals.specs.declared.Refusal.TheVariants as refusal
 
@@ -26,6 +27,10 @@ compressibility_of a = one ⊕ a.ar_d
 -- "the state ((ρ × R) × T) × Z"
 unfoldable pub pressure_of : GergDerivatives → Float → Float → Float
 pressure_of a temperature rho = rho ⊗ gas_constant ⊗ temperature ⊗ compressibility_of a
+
+-- "a trial is ρ × (R × T) × (1 + ar_d)"
+unfoldable pub trial_pressure_of : GergDerivatives → Float → Float → Float
+trial_pressure_of a temperature rho = rho ⊗ (gas_constant ⊗ temperature) ⊗ compressibility_of a
 
 -- dp/drho, the stiffness
 unfoldable pub stiffness_of : GergDerivatives → Float → Float
@@ -112,8 +117,7 @@ admitted_of a temperature rho mass high =
     (pick (finite_state (state_of a temperature rho mass)) (Ok (state_of a temperature rho mass)) (Err refusal.NotFinite)))
 
 unfoldable pub admitted_answer : Float → Float → Float → Float → Result GergDerivatives Refusal → Result GergState Refusal
-admitted_answer temperature rho mass high (Ok a) = admitted_of a temperature rho mass high
-admitted_answer temperature rho mass high (Err r) = Err r
+admitted_answer temperature rho mass high h = and_then h (λ a. admitted_of a temperature rho mass high)
 
 -- rows 6 to 12
 unfoldable pub evaluate_of : Tables → GergModel → Range → Float → Float → Result GergState Refusal

@@ -1,5 +1,5 @@
 // The properties of a homogeneous state, and rows 6 to 12.
-#![tactic(auto, unfolding(crate::specs::Evaluate::compressibility_of, crate::specs::Evaluate::pressure_of, crate::specs::Evaluate::stiffness_of, crate::specs::Evaluate::pressure_slope_of, crate::specs::Evaluate::cv_of, crate::specs::Evaluate::cp_of, crate::specs::Evaluate::internal_energy_of, crate::specs::Evaluate::helmholtz_energy_of, crate::specs::Evaluate::entropy_of, crate::specs::Evaluate::speed_of_sound_of, crate::specs::Evaluate::parts_of, crate::specs::Evaluate::state_from, crate::specs::Evaluate::state_of, crate::specs::Evaluate::finite_state, crate::specs::Evaluate::unstable, crate::specs::Evaluate::pressure_out, crate::specs::Evaluate::admitted_of, crate::specs::Evaluate::admitted_answer, crate::specs::Evaluate::evaluate_of))]
+#![tactic(auto, unfolding(crate::specs::Evaluate::compressibility_of, crate::specs::Evaluate::pressure_of, crate::specs::Evaluate::trial_pressure_of, crate::specs::Evaluate::stiffness_of, crate::specs::Evaluate::pressure_slope_of, crate::specs::Evaluate::cv_of, crate::specs::Evaluate::cp_of, crate::specs::Evaluate::internal_energy_of, crate::specs::Evaluate::helmholtz_energy_of, crate::specs::Evaluate::entropy_of, crate::specs::Evaluate::speed_of_sound_of, crate::specs::Evaluate::parts_of, crate::specs::Evaluate::state_from, crate::specs::Evaluate::state_of, crate::specs::Evaluate::finite_state, crate::specs::Evaluate::unstable, crate::specs::Evaluate::pressure_out, crate::specs::Evaluate::admitted_of, crate::specs::Evaluate::admitted_answer, crate::specs::Evaluate::evaluate_of))]
 
 ghost use Rattle.std.specs.Prelude.{◌≡◌};
 ghost use Rattle.gerg_tables.specs.Lent.{lent};
@@ -9,7 +9,6 @@ use crate::{GergState, Range, helmholtz};
 use elementary::power;
 use elementary_sqrt::sqrt;
 use gerg_derivatives::derivatives::GergDerivatives;
-use gerg_isotherm::isotherm;
 use gerg_isotherm::lent::Isotherm;
 use gerg_reducing::GergModel;
 use gerg_refusals::Refusal;
@@ -19,6 +18,8 @@ use gerg_tables::numbers::is_finite;
 // The gas constant of the equation, J/(mol K).
 pub const GERG_GAS_CONSTANT: f64 = 8.314472;
 
+// The derivatives, the temperature and the density are parameters of their own, in the order of the definitions: a function takes those that its
+// property depends on.
 fn compressibility(a: GergDerivatives) -> f64
     ensures { result ≡ is.compressibility_of a }
 {
@@ -32,7 +33,15 @@ fn pressure(a: GergDerivatives, temperature: f64, rho: f64) -> f64
     rho * GERG_GAS_CONSTANT * temperature * z
 }
 
-fn stiffness(a: GergDerivatives, temperature: f64) -> f64
+// The pressure of a trial at a density, which searches compare with their target. Not `pressure`: the product is taken in another order, and the last bit may differ.
+pub fn trial_pressure(a: GergDerivatives, temperature: f64, rho: f64) -> f64
+    ensures { result ≡ is.trial_pressure_of a temperature rho }
+{
+    let z = compressibility(a);
+    rho * (GERG_GAS_CONSTANT * temperature) * z
+}
+
+pub fn stiffness(a: GergDerivatives, temperature: f64) -> f64
     ensures { result ≡ is.stiffness_of a temperature }
 {
     GERG_GAS_CONSTANT * temperature * (1.0 + 2.0 * a.ar_d + a.ar_dd)
@@ -113,6 +122,7 @@ fn parts_of(a: GergDerivatives, temperature: f64, rho: f64) -> Parts
     }
 }
 
+// A state takes its derivatives, temperature, density and mass besides the parts, so no `From` makes it of them.
 fn state_from(a: GergDerivatives, temperature: f64, rho: f64, mass: f64, p: Parts) -> GergState
     ensures { result ≡ is.state_from a temperature rho mass p }
 {
@@ -212,12 +222,7 @@ pub fn evaluate(
 ) -> Result<GergState, Refusal>
     ensures { result ≡ is.evaluate_of (lent coefficients.entry) model.now range temperature rho }
 {
-    let cells = isotherm::isotherm(coefficients, model, temperature);
-    let isotherm = Isotherm {
-        coefficients,
-        model,
-        temperature,
-        cells: &cells,
-    };
+    let mut cells = [0.0; 939];
+    let isotherm = Isotherm::of(coefficients, model, temperature, &mut cells);
     evaluate_at(isotherm, range, rho)
 }

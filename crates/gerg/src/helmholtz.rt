@@ -1,5 +1,5 @@
 // Rows 6 to 9, and the nine derivatives where they pass.
-#![tactic(auto, unfolding(crate::specs::Helmholtz::all_finite, crate::specs::Helmholtz::checked_of, crate::specs::Helmholtz::within_range, crate::specs::Helmholtz::helmholtz_of, gerg_terms::specs::Points::sums_of, crate::specs::Helmholtz::normal_range, crate::specs::Helmholtz::extended_range))]
+#![tactic(auto, unfolding(crate::specs::Helmholtz::all_finite, crate::specs::Helmholtz::checked_of, crate::specs::Helmholtz::within_range, crate::specs::Helmholtz::helmholtz_of, crate::specs::Helmholtz::normal_range, crate::specs::Helmholtz::extended_range))]
 
 ghost use Rattle.std.specs.Prelude.{◌≡◌};
 ghost use Rattle.gerg_tables.specs.Lent.{lent};
@@ -7,8 +7,7 @@ ghost use Rattle.gerg.specs.Helmholtz as is;
 
 use crate::Range;
 use gerg_derivatives::derivatives::GergDerivatives;
-use gerg_isotherm::isotherm;
-use gerg_isotherm::lent::Isotherm;
+use gerg_isotherm::lent::{Isotherm, IsothermRows};
 use gerg_reducing::GergModel;
 use gerg_refusals::Refusal;
 use gerg_tables::coefficients::Coefficients;
@@ -47,7 +46,7 @@ fn within_range(range: Range, temperature: f64, rho: f64) -> bool
         & ((0.001 <= rho) & (rho <= 30000.0))
 }
 
-// 200 to 450 K, pressures to 35 MPa.
+// 200 to 450 K, pressures to 35 MPa. Functions and no constants, here and below: a clause says of each that it is the range of the definition.
 pub fn normal_range() -> Range
     ensures { result ≡ is.normal_range }
 {
@@ -70,6 +69,7 @@ pub fn extended_range() -> Range
 }
 
 // Rows 6 to 9 at one density of an isotherm.
+#[tactic(auto, using(gerg_isotherm::proofs::Laws::Lent::lent_rows), unfolding(crate::specs::Helmholtz::helmholtz_of))]
 pub fn helmholtz_at(isotherm: Isotherm, range: Range, rho: f64) -> Result<GergDerivatives, Refusal>
     ensures { result ≡ is.helmholtz_of (lent isotherm.entry.coefficients) isotherm.entry.model.now range isotherm.entry.temperature rho }
 {
@@ -82,10 +82,19 @@ pub fn helmholtz_at(isotherm: Isotherm, range: Range, rho: f64) -> Result<GergDe
     if !within_range(range, isotherm.temperature, rho) {
         return Err(Refusal::OutsideRange);
     }
-    let a = sums::sums(isotherm, rho);
-    checked(a)
+    let model = isotherm.model;
+    // Written out: a `From` would be used here alone, and its clauses name the five fields again.
+    let rows = IsothermRows {
+        coefficients: isotherm.coefficients,
+        fractions: &model.fractions,
+        temperature: isotherm.temperature,
+        tau: model.reducing_temperature / isotherm.temperature,
+        cells: isotherm.cells,
+    };
+    checked(sums::sums(rows, rho, rho / model.reducing_density))
 }
 
+// Beside the form that takes an isotherm, here and in `evaluate` and `density`: a call at one density has only the tables and the model to make it of.
 pub fn helmholtz(
     coefficients: Coefficients,
     model: &GergModel,
@@ -95,12 +104,7 @@ pub fn helmholtz(
 ) -> Result<GergDerivatives, Refusal>
     ensures { result ≡ is.helmholtz_of (lent coefficients.entry) model.now range temperature rho }
 {
-    let cells = isotherm::isotherm(coefficients, model, temperature);
-    let isotherm = Isotherm {
-        coefficients,
-        model,
-        temperature,
-        cells: &cells,
-    };
+    let mut cells = [0.0; 939];
+    let isotherm = Isotherm::of(coefficients, model, temperature, &mut cells);
     helmholtz_at(isotherm, range, rho)
 }

@@ -2,7 +2,7 @@
 use Rattle.std.specs.Prelude.{ℕ, List, [], ◌∷◌, ◌++◌, pos, Float, Result, Ok, Err, Option, Some, None}
 use Rattle.std.specs.Float.{binary64}
 use Rattle.std.specs.Float.Ieee.{of_int}
-use Rattle.gerg_refusals.specs.Answer.{number_of, value_of}
+use Rattle.gerg_refusals.specs.Answer.{number_of, value_of, memory_of}
 use Rattle.gerg_refusals.specs.Code.{code_of}
 use Rattle.gerg_refusals.specs.Refusal as of_refusal
 use Rattle.gerg_refusals.specs.declared.Refusal.{Refusal}
@@ -38,8 +38,7 @@ numbers_of s =
 
 -- "Every row leaves all lent memory as it was": what an answer leaves in 24 lent doubles, a state's numbers or what was lent
 unfoldable pub properties_written : Result GergState Refusal → List Float → List Float
-properties_written (Ok s) out = numbers_of s
-properties_written (Err r) out = out
+properties_written a out = memory_of a out numbers_of
 
 -- the state's 24 numbers, the residual, the trials, the first bracket, the last bracket
 unfoldable pub density_numbers : DensityResult → List Float
@@ -49,8 +48,7 @@ density_numbers r =
 
 -- 30 lent doubles afterwards
 unfoldable pub density_written : Result DensityResult Refusal → List Float → List Float
-density_written (Ok r) out = density_numbers r
-density_written (Err r) out = out
+density_written a out = memory_of a out density_numbers
 
 -- "the numbers of `PureSaturation`", in its order
 unfoldable pub saturation_numbers : PureSaturation → List Float
@@ -58,8 +56,11 @@ saturation_numbers s =
     s.temperature_k ∷ s.pressure_pa ∷ s.liquid_compressibility ∷ s.vapor_compressibility ∷ s.liquid_molar_volume ∷ s.vapor_molar_volume
     ∷ s.ln_fugacity_coefficient ∷ s.fugacity_residual ∷ of_int binary64 (pos s.iterations) ∷ []
 
+-- "not enclosed" leaves lent memory too
+abbrev pub found_written : Option PureSaturation → List Float → List Float
+found_written (Some s) out = saturation_numbers s
+found_written None out = out
+
 -- nine lent doubles afterwards
 unfoldable pub saturation_written : Result (Option PureSaturation) Refusal → List Float → List Float
-saturation_written (Ok (Some s)) out = saturation_numbers s
-saturation_written (Ok None) out = out
-saturation_written (Err r) out = out
+saturation_written a out = memory_of a out (λ found. found_written found out)

@@ -14,13 +14,10 @@ use gerg_saturation::PureSaturation;
 pub fn accepted_code<T: Copy>(answer: Result<T, Refusal>) -> u64
     ensures { result ≡ is.accepted_code answer }
 {
-    match answer {
-        Ok(_) => 0,
-        Err(refusal) => code(Err(refusal)),
-    }
+    code(answer.map(|_| 0))
 }
 
-// The 24 numbers of a state.
+// The 24 numbers of a state. Functions and no `From`, here and below: the order of the numbers is the C interface's, of which the crates of the records know nothing.
 fn numbers(s: GergState) -> [f64; 24]
     ensures { result ≡ is.numbers_of s }
 {
@@ -53,6 +50,7 @@ fn numbers(s: GergState) -> [f64; 24]
     ]
 }
 
+// Three of one line each, here and below: one over the type, the size and a closure for the numbers has a longer head than all three have text.
 pub fn put_properties(answer: Result<GergState, Refusal>, out: &mut [f64; 24])
     ensures { out.new ≡ is.properties_written answer out.old }
 {
@@ -65,41 +63,14 @@ pub fn put_properties(answer: Result<GergState, Refusal>, out: &mut [f64; 24])
 fn density_numbers(r: DensityResult) -> [f64; 30]
     ensures { result ≡ is.density_numbers r }
 {
-    let s = r.state;
-    let d = s.derivatives;
-    let trials = std::num::nearest_u64_to_f64(r.trials as u64);
-    [
-        s.temperature_k,
-        s.molar_density,
-        s.mass_density,
-        s.pressure_pa,
-        s.compressibility,
-        s.dp_drho,
-        s.dp_dt,
-        s.internal_energy,
-        s.enthalpy,
-        s.entropy,
-        s.cv,
-        s.cp,
-        s.speed_of_sound,
-        s.helmholtz_energy,
-        s.gibbs_energy,
-        d.ar,
-        d.ar_d,
-        d.ar_dd,
-        d.ar_t,
-        d.ar_tt,
-        d.ar_dt,
-        d.a0,
-        d.a0_t,
-        d.a0_tt,
-        r.residual,
-        trials,
-        r.first.lo,
-        r.first.hi,
-        r.last.lo,
-        r.last.hi,
-    ]
+    let trials = std::num::nearest_usize_to_f64(r.trials);
+    let search = [
+        r.residual, trials, r.first.lo, r.first.hi, r.last.lo, r.last.hi,
+    ];
+    let mut all = [0.0; 30];
+    all[..24].copy_from_slice(&numbers(r.state));
+    all[24..].copy_from_slice(&search);
+    all
 }
 
 pub fn put_density(answer: Result<DensityResult, Refusal>, out: &mut [f64; 30])
@@ -114,18 +85,14 @@ pub fn put_density(answer: Result<DensityResult, Refusal>, out: &mut [f64; 30])
 pub fn saturation_code(answer: Result<Option<PureSaturation>, Refusal>) -> u64
     ensures { result ≡ is.saturation_code answer }
 {
-    match answer {
-        Ok(Some(_)) => 1,
-        Ok(None) => 0,
-        Err(refusal) => code(Err(refusal)),
-    }
+    code(answer.map(|found| usize::from(found.is_some())))
 }
 
 // The nine numbers of a saturation.
 fn saturation_numbers(s: PureSaturation) -> [f64; 9]
     ensures { result ≡ is.saturation_numbers s }
 {
-    let iterations = std::num::nearest_u64_to_f64(s.iterations as u64);
+    let iterations = std::num::nearest_usize_to_f64(s.iterations);
     [
         s.temperature_k,
         s.pressure_pa,

@@ -101,18 +101,20 @@ pub extern "C" fn gerg_pure_saturation(
     ensures answer { result ≡ answers.saturation_code (equilibrium.saturation_call file.now list.now fractions.now p lo hi limit) }
     ensures memory { out.new ≡ answers.saturation_written (equilibrium.saturation_call file.now list.now fractions.now p lo hi limit) out.old }
 {
-    let answer = saturation::pure_saturation(file, list, fractions, p, lo, hi, limit as usize);
+    // A usize has 64 bits, so the cast is exact; std has no `usize::from` of a u64.
+    let limit = limit as usize;
+    let answer = saturation::pure_saturation(file, list, fractions, p, lo, hi, limit);
     gerg_answers::put_saturation(answer, out);
     gerg_answers::saturation_code(answer)
 }
 
 #[unsafe(no_mangle)]
 pub extern "C" fn gerg_state_at(seed: u64, n: u32, out: &mut [f64; 2]) -> u64
-    ensures answer { result ≡ drawn.refusal_code (drawn.seed_refusal seed) }
+    ensures answer { result ≡ answers.accepted_code (drawn.seed_refusal seed) }
     ensures memory { out.new ≡ drawn.state_written seed n out.old }
 {
-    let refusal = state::state_at(seed, n, out);
-    gerg_states::refusal_code(refusal)
+    let answer = state::state_at(seed, n, out);
+    gerg_answers::accepted_code(answer)
 }
 
 #[unsafe(no_mangle)]
@@ -125,7 +127,7 @@ pub extern "C" fn gerg_count_refusals(
     states: u32,
     out: &mut [u64; 38],
 ) -> u64
-    ensures answer { result ≡ drawn.refusal_code (drawn.run_refusal file.now list.now fractions.now seed) }
+    ensures answer { result ≡ answers.accepted_code (drawn.run_refusal file.now list.now fractions.now seed) }
     ensures memory { out.new ≡ drawn.counts_written file.now list.now fractions.now (drawn.run_of seed first states) out.old }
 {
     let run = Run {
@@ -133,6 +135,6 @@ pub extern "C" fn gerg_count_refusals(
         first,
         states,
     };
-    let refusal = counts::count_refusals(file, list, fractions, run, out);
-    gerg_states::refusal_code(refusal)
+    let answer = counts::count_refusals(file, list, fractions, run, out);
+    gerg_answers::accepted_code(answer)
 }

@@ -1,4 +1,4 @@
-// The calls of request 03 for C, in the extended range: as those of export.rt.
+// The calls of request 03 for C, in the extended range: as those of export.rt. C needs both names, and three lines of a body are all that two such exports have in common.
 ghost use Rattle.std.specs.Prelude.{◌≡◌};
 ghost use Rattle.gerg.specs.Helmholtz.{extended_range};
 ghost use Rattle.gerg_answers.specs.Answers as answers;

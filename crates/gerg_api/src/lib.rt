@@ -4,7 +4,8 @@
 ghost use Rattle.std.specs.Prelude.{◌≡◌};
 ghost use Rattle.gerg_calls.specs.Calls.{options_of};
 
-use gerg_search::{Bracket, Options};
+use gerg_search::Options;
+use interval::Interval;
 
 pub mod export;
 pub mod extended;
@@ -14,7 +15,8 @@ pub mod lists;
 fn options(lo: f64, hi: f64, limit: u64, tolerance: f64) -> Options
     ensures { result ≡ options_of lo hi limit tolerance }
 {
-    let bracket = Bracket { lo, hi };
+    let bracket = Interval { lo, hi };
+    // A usize has 64 bits, so the cast is exact; std has no `usize::from` of a u64.
     let limit = limit as usize;
     Options {
         bracket,

@@ -1,7 +1,6 @@
 -- What follows rows 1 to 5, what these rows carry to each call, the normal range, and what two ranges share.
 pub mod After
 pub mod Carried
-pub mod Chosen
 pub mod Normal
 pub mod Inside
 -- The number of a refusal is not below 6, which a chromatograph's list needs.

@@ -1,7 +1,7 @@
 -- Rows 1 and 2 refuse by a number at most 2 and a value at most 28,377.
 use mathlib.Core.Path.{◌≡◌, refl, ap, ◌∙◌}
 use mathlib.Core.List.{List}
-use Prim.Native.Nat.{ℕ, ◌+◌, ◌*◌, ◌≤◌}
+use Prim.Native.Nat.{ℕ, ◌^◌, ◌≤◌, ◌<◌}
 use native.Mathlib.Omega.{arith}
 use Rattle.gerg_file.specs.File.{file_of}
 use Rattle.gerg_file.specs.declared.Layout.{Layout}
@@ -11,6 +11,8 @@ use Rattle.gerg_refusals.specs.declared.Fault.{Fault}
 use Rattle.gerg_refusals.specs.declared.Fault.TheVariants as fault
 use Rattle.gerg_refusals.specs.Refusal.{cause_of}
 use Rattle.gerg_refusals.specs.Refusal as of_refusal
+use Rattle.gerg_refusals.specs.Code as of_code
+use Rattle.gerg_refusals.specs.Code.{code}
 use Rattle.gerg_file.proofs.Laws.Laid.{laid_out}
 use Rattle.gerg_file.proofs.Laws.Standing.{longest}
 use Rattle.gerg_file.proofs.Laws.Cut.{malformed_is, malformed_at_most}
@@ -62,12 +64,14 @@ pub file_value_at_most : (bytes : List ℕ) → value_of (answer_of bytes) ≤ 2
 unfolding answer_of
 file_value_at_most bytes = value_as bytes (file_of bytes) refl
 
+-- a value below 2^32 is given whole
+code_whole : (a : Result ℕ Refusal) → value_of a < 2 ^ 32 → code a ≡ code_of a
+unfolding code of_code.code_of
+code_whole (Ok length) h = omega arith
+code_whole (Err r) h = omega arith
+
 -- what the export has of its callees' results
-pub code_is : (bytes : List ℕ) {r : TableFile} {number value : ℕ} → r ≡ table_file_of bytes → number ≡ number_of r.answer → value ≡ value_of r.answer
-    → (number ≤ 2) × (value ≤ 28377) × (number * 4294967296 + value ≡ code_of (answer_of bytes))
-code_is bytes {r} {number} {value} e n v =
-    let a : number ≡ number_of (answer_of bytes) = n ∙ ap number_of (read_answer bytes e) in
-    let b : value ≡ value_of (answer_of bytes) = v ∙ ap value_of (read_answer bytes e) in
-    let x = file_at_most_2 bytes in
-    let y = file_value_at_most bytes in
-    (omega arith, omega arith, rw (a, b))
+pub code_is : (bytes : List ℕ) {r : TableFile} {n : ℕ} → r ≡ table_file_of bytes → n ≡ code r.answer → n ≡ code_of (answer_of bytes)
+code_is bytes e n =
+    let h = file_value_at_most bytes in
+    n ∙ ap code (read_answer bytes e) ∙ code_whole (answer_of bytes) (omega arith)

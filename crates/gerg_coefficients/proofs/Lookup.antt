@@ -11,8 +11,9 @@ use lib.Ieee.{nan}
 use Rattle.numerics.specs.Double.{+0}
 use Rattle.numerics.specs.Fill.{get_d_tabulate}
 use Rattle.gerg_file.specs.Bytes.{byte, double_at}
+use Rattle.gerg_file.proofs.Heads.{room}
 use Rattle.gerg_coefficients.specs.Load.{flat, doubles_at, bytes_at, run_of, Records, present, place, row_of}
-use Rattle.gerg_coefficients.proofs.Put.{length_flat, length_doubles_at, length_bytes_at, room}
+use Rattle.gerg_coefficients.proofs.Put.{length_flat, length_doubles_at, length_bytes_at}
 use Rattle.gerg_coefficients.proofs.Rows.{length_part, length_row}
 
 module _ {A : Type 0} (d : A) where
@@ -30,7 +31,7 @@ module _ {A : Type 0} (d : A) where
     get_flat zero i q h g = absurd (omega arith)
     get_flat (suc n) i q h g =
         below_more (λ (i : ℕ). get_or (flat f n ++ f n) (w * i + q) d ≡ get_or (f i) q d) n
-        (λ i l. in_first (flat f n) (f n) (w * n) (w * i + q) (length_flat f w all n) (omega (arith, room w i n l)) ∙ get_flat n i q l g)
+        (λ i l. in_first (flat f n) (f n) (w * n) (w * i + q) (length_flat f w all n) (omega (arith, room 0 w i n (w * n) l (omega arith))) ∙ get_flat n i q l g)
         (in_second (flat f n) (f n) (w * n) q (length_flat f w all n))
         i (omega arith)
 
@@ -88,12 +89,12 @@ module _ (s : List ℕ) (f : ℕ → Records) (offset count per n i k c : ℕ) (
       ≡ cond (present (f i) k) (double_at s (place (f i) offset k + 8 * c)) +0
   get_rows =
       get_flat nan (λ i. row_of +0 (doubles_at s) (f i) offset count per) (per * count)
-      (λ k. length_row +0 (doubles_at s) (length_doubles_at s) (f k) offset count per) n i (per * k + c) l (omega (arith, room per k count h))
+      (λ k. length_row +0 (doubles_at s) (length_doubles_at s) (f k) offset count per) n i (per * k + c) l (omega (arith, room 0 per k count (per * count) h (omega arith)))
       ∙ get_row_double s (f i) offset count per k c h g
 
   pub get_byte_rows : get_or (flat (λ i. row_of 0 (bytes_at s) (f i) offset count per) n) (per * count * i + (per * k + c)) 0
       ≡ cond (present (f i) k) (byte s (place (f i) offset k + c)) 0
   get_byte_rows =
       get_flat 0 (λ i. row_of 0 (bytes_at s) (f i) offset count per) (per * count)
-      (λ k. length_row 0 (bytes_at s) (length_bytes_at s) (f k) offset count per) n i (per * k + c) l (omega (arith, room per k count h))
+      (λ k. length_row 0 (bytes_at s) (length_bytes_at s) (f k) offset count per) n i (per * k + c) l (omega (arith, room 0 per k count (per * count) h (omega arith)))
       ∙ get_row_byte s (f i) offset count per k c h g

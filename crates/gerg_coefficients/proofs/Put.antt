@@ -1,20 +1,16 @@
 -- Numbers stored into an array one after the other.
 use mathlib.Core.Path.{◌≡◌, refl, sym, ap, ◌∙◌}
 use mathlib.Core.List.{List, [], ◌∷◌, ◌++◌, append-nil, append_assoc}
-use Prim.Native.Nat.{ℕ, zero, suc, ◌+◌, ◌-◌, ◌*◌, ◌≤◌, ◌<◌}
+use Prim.Native.Nat.{ℕ, zero, suc, ◌+◌, ◌-◌, ◌*◌, ◌≤◌}
 use native.Mathlib.Numerals.{add-one}
-use native.Mathlib.Nat.{mul-suc, mul-zero, mul-le-mul_left}
+use native.Mathlib.Nat.{mul-suc, mul-zero}
 use native.Mathlib.Omega.{arith}
-use lib.ListN.{length, set, take, drop, length-append, length-drop}
-use lib.Seq.{sets, sets-eq, take-suc, get_or-drop, drop-drop}
+use lib.ListN.{length, set, length-append}
+use lib.Seq.{sets}
 use lib.Ieee.{Float}
 use Rattle.numerics.specs.Fill.{tabulate, length_tabulate, sets_append}
 use Rattle.gerg_file.specs.Bytes.{byte, double_at}
 use Rattle.gerg_coefficients.specs.Load.{flat, doubles_at, bytes_at, run_of, critical_of, critical}
-
--- record k of `count` has room
-pub room : (per k count : ℕ) → k < count → per * k + per ≤ per * count
-room per k count h = let g : suc k ≤ count = omega arith in omega (arith, mul-le-mul_left per g, mul-suc per k)
 
 -- a list stored piece by piece
 sets_on : {A : Type 0} (b c l : List A) (to n : ℕ) {o o' : List A} → length b ≡ n → o ≡ sets l to b → o' ≡ sets o (to + n) c → o' ≡ sets l to (b ++ c)
@@ -52,6 +48,15 @@ module _ (s : List ℕ) (at to : ℕ) where
   unfolding doubles_at
   double_on k l i e = tabulate_on (λ k. double_at s (at + 8 * k)) k l to i e
 
+  pub no_bytes : (l : List ℕ) → l ≡ sets l to (bytes_at s at 0)
+  unfolding bytes_at tabulate
+  no_bytes l = refl
+
+  pub byte_on : (k : ℕ) (l : List ℕ) {o : List ℕ} {v : ℕ} → o ≡ sets l to (bytes_at s at k) → v ≡ byte s (at + k)
+      → set o (to + k) v ≡ sets l to (bytes_at s at (k + 1))
+  unfolding bytes_at
+  byte_on k l i e = tabulate_on (λ k. byte s (at + k)) k l to i e
+
 pub length_doubles_at : (s : List ℕ) (at n : ℕ) → length (doubles_at s at n) ≡ n
 unfolding doubles_at
 length_doubles_at s at n = length_tabulate _ n
@@ -59,24 +64,6 @@ length_doubles_at s at n = length_tabulate _ n
 pub length_bytes_at : (s : List ℕ) (at n : ℕ) → length (bytes_at s at n) ≡ n
 unfolding bytes_at
 length_bytes_at s at n = length_tabulate _ n
-
--- bytes copied together
-copied : (s : List ℕ) (at n : ℕ) → at + n ≤ length s → take n (drop at s) ≡ bytes_at s at n
-unfolding bytes_at tabulate
-copied s at zero h = refl
-copied s at (suc n) h =
-    let l = length-drop at s in
-    take-suc (drop at s) n 0 (omega arith) ∙ ap (λ (v : ℕ). take n (drop at s) ++ (v ∷ [])) (get_or-drop at s n 0)
-    ∙ ap (λ (b : List ℕ). b ++ (byte s (at + n) ∷ [])) (copied s at n (omega arith))
-
-pub bytes_on : (s out part : List ℕ) (at n to : ℕ) → at + n ≤ length s → to + n ≤ length out → part ≡ take (at + n - at) (drop at s)
-    → take to out ++ (part ++ drop (to + n - to) (drop to out)) ≡ sets out to (bytes_at s at n)
-bytes_on s out part at n to h g e =
-    let l = length_bytes_at s at n in
-    let b : part ≡ bytes_at s at n = e ∙ ap (λ (m : ℕ). take m (drop at s)) (let q : at + n - at ≡ n = omega arith in q) ∙ copied s at n h in
-    let d : drop (to + n - to) (drop to out) ≡ drop (to + length (bytes_at s at n)) out =
-    drop-drop (to + n - to) to out ∙ ap (λ (m : ℕ). drop m out) (let q : to + (to + n - to) ≡ to + length (bytes_at s at n) = omega arith in q) in
-    rw (b, d) (sym (append_assoc (take to out) (bytes_at s at n) _) ∙ sym (sets-eq (bytes_at s at n) out to (omega arith)))
 
 -- the numbers past the first k, stored after those
 tabulate_add : {A : Type 0} (f g : ℕ → A) (k m : ℕ) → ((j : ℕ) → f (k + j) ≡ g j) → tabulate f (k + m) ≡ tabulate f k ++ tabulate g m

@@ -29,8 +29,7 @@ judged (Ok u) length = Ok length
 judged (Err fault) length = Err (refusal.Tables fault)
 
 unfoldable pub answer_as : List ℕ → Result Layout Refusal → Result ℕ Refusal
-answer_as s (Err r) = Err r
-answer_as s (Ok l) = judged (fault_of (doubles s l) (integers s l) l.count) l.length
+answer_as s file = of_answer.and_then file (λ l. judged (fault_of (doubles s l) (integers s l) l.count) l.length)
 
 -- a file with the bytes s is answered with
 unfoldable pub answer_of : List ℕ → Result ℕ Refusal

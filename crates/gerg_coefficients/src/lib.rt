@@ -11,33 +11,15 @@ mod store;
 
 use gerg_file::read_layout;
 use gerg_refusals::Refusal;
+use gerg_refusals::code::code;
 use gerg_tables::{Tables, check};
 
-// A file's answer, its length or why it is refused, and its tables, which are zeros where row 1 refuses it.
+// A file's answer, its length or why it is refused, and its tables, which are zeros where row 1 refuses it. The tables stand beside the answer and not in it: a file that row 2
+// refuses has tables too.
 #[derive(Clone, Copy)]
 pub struct TableFile {
     pub answer: Result<usize, Refusal>,
     pub tables: Tables,
-}
-
-// Document 01's number of an answer, 0 for an accepted file.
-pub fn number(answer: Result<usize, Refusal>) -> u64
-    ensures { result ≡ Answers.number_of answer }
-{
-    match answer {
-        Ok(_) => 0,
-        Err(refusal) => u64::from(refusal.number()),
-    }
-}
-
-// Document 01's value, the length for an accepted file.
-pub fn value(answer: Result<usize, Refusal>) -> u64
-    ensures { result ≡ Answers.value_of answer }
-{
-    match answer {
-        Ok(length) => length as u64,
-        Err(refusal) => refusal.value() as u64,
-    }
 }
 
 // The bytes of a coefficient file, checked and read into lent arrays of zeros, so that tables of 34 kB are not copied.
@@ -66,12 +48,13 @@ pub fn read_tables(file: &[u8]) -> TableFile
     TableFile { answer, tables }
 }
 
-// The answer's number and value as one number, for callers in C (`gerg_coefficients_c` exports it).
+// The answer's number and value as one number, for callers in C (`gerg_coefficients_c` exports it). A file's length is what an accepted answer reports.
+// By `read_tables` the arrays would be copied into its answer.
 pub fn gerg_tables_check(file: &[u8]) -> u64
     ensures { result ≡ Answers.code_of (Answers.answer_of file.now) }
 {
     let mut doubles = [0.0; 4086];
     let mut integers = [0u8; 1631];
     let answer = read_tables_into(file, &mut doubles, &mut integers);
-    number(answer) * 4294967296 + value(answer)
+    code(answer)
 }

@@ -6,7 +6,7 @@ ghost use Rattle.numerics.specs.Double.{+0};
 ghost use Rattle.gerg_file.specs.Kinds as Kinds;
 ghost use Rattle.gerg_file.specs.Laid.{Laid};
 ghost use Rattle.gerg_file.specs.Counts.{sum, terms_of, departures_of};
-ghost use Rattle.gerg_tables.specs.Check.{first, number_fault};
+ghost use Rattle.gerg_tables.specs.Check.{PairsFinite};
 ghost use Rattle.gerg_coefficients.specs.Load as Load;
 ghost use Rattle.gerg_coefficients.specs.Filling.{FinitePairs};
 ghost use Rattle.gerg_coefficients.specs.Filling.{padded};
@@ -18,7 +18,8 @@ use gerg_file::kinds::{
     COMPONENT, COMPONENT_MASS, COMPONENT_TC, DEPARTURE, FUNCTION, PAIR, REVISION, TERM,
 };
 
-// Tc and MMiGERG of each component.
+// Tc and MMiGERG of each component. They stand before the counts, and `COMPONENT` names the doubles past them: by `put_records` they would be those of
+// a kind of their own.
 fn put_critical(s: &[u8], doubles: &mut [f64; 4086])
     requires { (Kinds.revision).size + (Kinds.component).size * 21 ≤ length s.now }
     ensures { doubles.new ≡ sets doubles.old 0 (Load.critical s.now) }
@@ -41,7 +42,7 @@ fn put_components(s: &[u8], doubles: &mut [f64; 4086], integers: &mut [u8; 1631]
     put_byte_records(s, COMPONENT, REVISION.size, 21, 2, 0, integers);
 }
 
-// The terms of the components, whose section begins at `from`: noik and toik, coik and doik.
+// The terms of the components, whose section begins at `from`: noik and toik, coik and doik. A row begins where the one before it ends, which the counts that were read tell.
 fn put_terms(s: &[u8], from: usize, doubles: &mut [f64; 4086], integers: &mut [u8; 1631])
     requires { ((i : ℕ) → i < 21 → terms_of s.now i ≤ 24) × (from + (Kinds.term).size * sum (terms_of s.now) 21 ≤ length s.now) }
     ensures { ((a : List Float) → length a ≡ 273 → doubles.old ≡ padded 4086 +0 a → doubles.new ≡ padded 4086 +0 (a ++ Load.term_doubles s.now from)) × ((a : List ℕ) → length a ≡ 42 → integers.old ≡ padded 1631 0 a → integers.new ≡ padded 1631 0 (a ++ Load.term_integers s.now from)) }
@@ -56,6 +57,7 @@ fn put_terms(s: &[u8], from: usize, doubles: &mut [f64; 4086], integers: &mut [u
 }
 
 // The pairs of components, whose section begins at `from`: btij, bvij, gtij, gvij and fij, mNumb. True only where all those doubles are finite.
+// Each row has one pair less than the one before: by i alone it would begin i * (43 - i) / 2 records on, so its place is handed on.
 fn put_pairs(s: &[u8], from: usize, doubles: &mut [f64; 4086], integers: &mut [u8; 1631]) -> bool
     requires { from + (Kinds.pair).size * 231 ≤ length s.now }
     ensures { ((a : List Float) → length a ≡ 1281 → doubles.old ≡ padded 4086 +0 a → doubles.new ≡ padded 4086 +0 (a ++ Load.pair_doubles s.now from)) × (((a : List ℕ) → length a ≡ 1050 → integers.old ≡ padded 1631 0 a → integers.new ≡ padded 1631 0 (a ++ Load.pair_integers s.now from)) × (result ≡ true → (i : ℕ) → i < 21 → FinitePairs s.now from i)) }
@@ -86,6 +88,8 @@ fn departures_of(s: &[u8], functions: usize, count: usize, m: usize) -> usize
 }
 
 // The terms of the `count` departure functions at `functions`, whose section begins at `from`: cijk, eijk, gijk, nijk and tijk, dijk.
+// As with the terms of the components, the counts that were read tell where each begins. The places are three of the six numbers of a `Layout`: by the struct each
+// clause would name them by one path more.
 fn put_departures(
     s: &[u8],
     functions: usize,
@@ -109,7 +113,7 @@ fn put_departures(
 // All numbers of a well-formed file. True only where those of the pairs are finite.
 pub fn put_tables(s: &[u8], l: Layout, doubles: &mut [f64; 4086], integers: &mut [u8; 1631]) -> bool
     requires { Laid s.now l × ((doubles.old ≡ replicate 4086 +0) × (integers.old ≡ replicate 1631 0)) }
-    ensures { (doubles.new ≡ Load.doubles s.now l) × ((integers.new ≡ Load.integers s.now l) × (result ≡ true → first (number_fault doubles.new) 5 0 ≡ Ok tt)) }
+    ensures { (doubles.new ≡ Load.doubles s.now l) × ((integers.new ≡ Load.integers s.now l) × (result ≡ true → PairsFinite doubles.new)) }
 {
     put_components(s, doubles, integers);
     put_terms(s, l.terms, doubles, integers);

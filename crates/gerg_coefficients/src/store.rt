@@ -7,7 +7,8 @@ ghost use Rattle.gerg_coefficients.specs.Filling.{FiniteAt};
 use gerg_file::bytes::{double_inside, word_inside};
 use gerg_file::kinds::Kind;
 
-// n doubles that stand in a row, of whatever patterns, stored from `to` on.
+// n doubles that stand in a row, of whatever patterns, stored from `to` on. A function that fills a whole slice, as `states` has, would be lent a part of the array here,
+// and the proof would put that part back into the array of which `sets` speaks.
 fn put_any_doubles(s: &[u8], at: usize, n: usize, to: usize, out: &mut [f64; 4086])
     requires { (at + 8 * n ≤ length s.now) × (to + n ≤ 4086) }
     ensures { out.new ≡ sets out.old to (doubles_at s.now at n) }
@@ -34,12 +35,14 @@ fn put_doubles(s: &[u8], at: usize, n: usize, to: usize, out: &mut [f64; 4086]) 
     true
 }
 
-// n bytes that stand in a row, stored from `to` on.
+// n bytes that stand in a row, stored from `to` on. They are one or two: `copy_from_slice` would first test whether the slices overlap, which takes longer than the copy.
 fn put_bytes(s: &[u8], at: usize, n: usize, to: usize, out: &mut [u8; 1631])
     requires { (at + n ≤ length s.now) × (to + n ≤ 1631) }
     ensures { out.new ≡ sets out.old to (bytes_at s.now at n) }
 {
-    out[to..to + n].copy_from_slice(&s[at..at + n]);
+    for k in 0..n {
+        out[to + k] = s[at + k];
+    }
 }
 
 // The first `per` doubles of each of `count` records of one kind, of which the first begins at `from`, stored from `to` on. True only where all are finite.
@@ -64,12 +67,13 @@ pub fn put_records(
             to + per * k,
             out,
         );
+        // Not `all`, which would stop at the first that is not finite: each is stored.
         all = all & finite;
     }
     all
 }
 
-// The same for bytes. The two loops are one line each, which differs: one loop over a closure would have to be lent the array at each turn, to no gain.
+// The same for bytes, of which there is nothing to tell. One loop over a closure would have to be lent the array at each turn, to no gain.
 pub fn put_byte_records(
     s: &[u8],
     kind: Kind,

@@ -1,4 +1,4 @@
-// The C export of `gerg_coefficients`: it calls that crate's function and states its clause again.
+// The C export of `gerg_coefficients`: it calls that crate's function and states its clause again. A crate of its own, since no crate can depend on a static library.
 #![tactic(auto)]
 
 ghost use Rattle.std.specs.Prelude.{◌≡◌};

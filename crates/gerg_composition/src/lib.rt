@@ -1,6 +1,8 @@
 // GERG-2008: the composition derivative of the residual Helmholtz energy.
 #![tactic(auto)]
 
+ghost use Rattle.std.specs.Prelude.{◌<◌};
+
 pub mod composition;
 pub mod point;
 pub mod powers;
@@ -12,6 +14,16 @@ pub struct Pair {
     pub j: usize,
     pub xi: f64,
     pub xj: f64,
+}
+
+// A pair with its departure function, from 0.
+#[derive(Clone, Copy)]
+pub struct PairFunction {
+    pub pair: Pair,
+    pub m: usize,
+    pub ghost first: { pair.i < 21 },
+    pub ghost second: { pair.j < 21 },
+    pub ghost known: { m < 10 },
 }
 
 // The sums of the two components of a pair.

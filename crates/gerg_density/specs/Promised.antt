@@ -9,10 +9,11 @@ use Rattle.gerg_reducing.specs.declared.GergModel.{GergModel}
 use Rattle.gerg_derivatives.specs.declared.derivatives.GergDerivatives.{GergDerivatives}
 use Rattle.gerg.specs.declared.Range.{Range}
 use Rattle.gerg.specs.Helmholtz.{helmholtz_of}
+use Rattle.gerg.specs.Evaluate.{trial_pressure_of}
 use Rattle.gerg_search.specs.States.{NoneBetween, state_after, left_by}
 use Rattle.gerg_search.specs.Checks.{options_refused, target_refused}
 use Rattle.gerg_search.specs.Point.{within_of}
-use Rattle.gerg_density.specs.Trial.{trial_pressure, scale_of}
+use Rattle.gerg_density.specs.Trial.{scale_of}
 use Rattle.gerg_search.specs.Run.{last_of}
 use Rattle.gerg_density.specs.Density.{verdict_of, density_trials}
 use Rattle.gerg_search.specs.declared.Options.{Options}
@@ -23,7 +24,7 @@ use Rattle.gerg_search.specs.declared.Search.{Search}
 pub record Computed (t : Tables) (m : GergModel) (range : Range) (temperature x p : Float) : Type 0 where
   pub derivatives : GergDerivatives
   pub answered : helmholtz_of t m range temperature x ≡ Ok derivatives
-  pub formula : p ≡ trial_pressure temperature x derivatives.ar_d
+  pub formula : p ≡ trial_pressure_of derivatives temperature x
 
 -- "the double is within the tolerance when the Rust's test at a trial says so of that pressure"
 abbrev pub within_tolerance : Float → Options → Float → Bool

@@ -1,18 +1,10 @@
--- The trial of a density: its pressure and stiffness from the derivatives there, its tests, and its verdict.
+-- The trial of a density: the tests of its pressure and its stiffness, and its verdict.
 use Rattle.std.specs.Prelude.{not, ◌||◌, Float, Ok, Err}
 use Rattle.std.specs.Float.Ieee.{lt, le}
 use Rattle.std.specs.Float.Ieee.Scale.{finite}
-use Rattle.numerics.specs.Double.{◌⊕◌, ◌⊖◌, ◌⊗◌, ◌⊘◌, +0, one, two, pick}
-use Rattle.gerg.specs.Evaluate.{gas_constant}
+use Rattle.numerics.specs.Double.{◌⊖◌, ◌⊘◌, +0, one, pick}
 use Rattle.gerg_search.specs.Sample.{Sample}
 use Rattle.gerg_refusals.specs.declared.Refusal.TheVariants as refusal
-
--- "a trial is ρ × (R × T) × (1 + ar_d)"
-unfoldable pub trial_pressure : Float → Float → Float → Float
-trial_pressure temperature rho ar-d = rho ⊗ (gas_constant ⊗ temperature) ⊗ (one ⊕ ar-d)
-
-unfoldable pub trial_stiffness : Float → Float → Float → Float
-trial_stiffness temperature ar-d ar-dd = gas_constant ⊗ temperature ⊗ (one ⊕ two ⊗ ar-d ⊕ ar-dd)
 
 -- the larger of the target and 1 Pa
 unfoldable pub scale_of : Float → Float

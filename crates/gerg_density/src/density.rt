@@ -1,5 +1,5 @@
 // The density search of a mixture: rows 13 and 14, the loop over steps, and the state at an accepted density.
-#![tactic(auto, unfolding(crate::specs::Density::trial_of, crate::specs::Density::verdict_of, crate::specs::Density::residual_of, crate::specs::Density::beyond_of, crate::specs::Density::checked_of, crate::specs::Density::finished_of, crate::specs::Density::density_of))]
+#![tactic(auto, unfolding(crate::specs::Density::trial_of, crate::specs::Density::verdict_of, crate::specs::Density::residual_of, crate::specs::Density::checked_of, crate::specs::Density::finished_of, crate::specs::Density::density_of))]
 
 ghost use Rattle.std.specs.Prelude.{◌≡◌};
 ghost use Rattle.gerg_tables.specs.Lent.{lent};
@@ -7,22 +7,23 @@ ghost use Rattle.gerg_density.specs.Density as is;
 ghost use Rattle.gerg_density.specs.Running.{Ready, run_of};
 
 use crate::{DensityResult, trial};
-use gerg::evaluate::evaluate_at;
-use gerg::{GergState, Range, helmholtz};
-use gerg_isotherm::isotherm;
+use gerg::{GergState, Range, evaluate, helmholtz};
 use gerg_isotherm::lent::Isotherm;
 use gerg_reducing::GergModel;
 use gerg_refusals::Refusal;
 use gerg_search::{Found, Options, Outcome, Sample, Step, checks, steps};
 use gerg_tables::coefficients::Coefficients;
 
+// Isotherm, range and target stay parameters, here and below: no fact ties them, a state at an accepted density takes the first two alone, and `Sought` of gerg_scan would be an arrow that
+// a search does not need.
+
 // The trial at a density of an isotherm.
 fn verdict(isotherm: Isotherm, range: Range, target: f64, rho: f64) -> Sample
     ensures { result ≡ is.verdict_of (lent isotherm.entry.coefficients) isotherm.entry.model.now range isotherm.entry.temperature target rho }
 {
     let a = helmholtz::helmholtz_at(isotherm, range, rho)?;
-    let p = trial::pressure(isotherm.temperature, rho, a.ar_d);
-    let derivative = trial::stiffness(isotherm.temperature, a.ar_d, a.ar_dd);
+    let p = evaluate::trial_pressure(a, isotherm.temperature, rho);
+    let derivative = evaluate::stiffness(a, isotherm.temperature);
     trial::sample(target, p, derivative)
 }
 
@@ -32,12 +33,14 @@ fn run(isotherm: Isotherm, range: Range, target: f64, o: Options) -> Outcome
     ensures { result ≡ run_of (lent isotherm.entry.coefficients) isotherm.entry.model.now range isotherm.entry.temperature target o }
 {
     let mut s = steps::begin(o);
+    // No `for`: each step says whether the search goes on, and the bound on their number is the proof's.
     loop {
         let sample = verdict(isotherm, range, target, s.density);
         match steps::advance(o, s, sample) {
             Step::Try(x) => {
                 s = steps::moved(s, sample, x);
             }
+            // A search knows more than it reports, so no `From` makes `Found` of it.
             Step::Accepted(x) => return Ok(Found {
                 density: x,
                 trials: s.trials,
@@ -49,7 +52,7 @@ fn run(isotherm: Isotherm, range: Range, target: f64, o: Options) -> Outcome
 }
 
 // Rows 13 and 14, then the steps.
-#[tactic(auto, unfolding(crate::specs::Density::search_of, gerg_search::specs::Run::outcome_of))]
+#[tactic(auto, unfolding(crate::specs::Density::search_of, crate::specs::Running::run_of, gerg_search::specs::Run::outcome_of))]
 pub fn search(isotherm: Isotherm, range: Range, target: f64, options: Options) -> Outcome
     ensures { result ≡ is.search_of (lent isotherm.entry.coefficients) isotherm.entry.model.now range isotherm.entry.temperature target options }
 {
@@ -71,14 +74,12 @@ fn residual(target: f64, s: GergState) -> f64
     (s.pressure_pa - target) / trial::scale(target)
 }
 
-// Whether the size of a residual is above the tolerance.
+// Whether the size of a residual is above the tolerance. Not `!within`: a residual that is NaN is neither.
+#[tactic(auto, using(gerg_search::proofs::Size::size_beyond), unfolding(crate::specs::Density::beyond_of))]
 fn beyond(tolerance: f64, f: f64) -> bool
     ensures { result ≡ is.beyond_of tolerance f }
 {
-    if f < 0.0 {
-        return -f > tolerance;
-    }
-    f > tolerance
+    f.abs() > tolerance
 }
 
 // Row 17, by the state's own pressure.
@@ -114,14 +115,9 @@ pub fn density(
 ) -> Result<DensityResult, Refusal>
     ensures { result ≡ is.density_of (lent coefficients.entry) model.now range temperature target options }
 {
-    let cells = isotherm::isotherm(coefficients, model, temperature);
-    let isotherm = Isotherm {
-        coefficients,
-        model,
-        temperature,
-        cells: &cells,
-    };
+    let mut cells = [0.0; 939];
+    let isotherm = Isotherm::of(coefficients, model, temperature, &mut cells);
     let found = search(isotherm, range, target, options)?;
-    let state = evaluate_at(isotherm, range, found.density)?;
+    let state = evaluate::evaluate_at(isotherm, range, found.density)?;
     checked(target, options, found, state)
 }

@@ -6,7 +6,7 @@ pub mod density;
 pub mod trial;
 
 use gerg::GergState;
-use gerg_search::Bracket;
+use interval::Interval;
 
 // An accepted density: its state, the state's scaled pressure residual, the interior trials, the given bracket and the last one.
 #[derive(Clone, Copy)]
@@ -14,6 +14,6 @@ pub struct DensityResult {
     pub state: GergState,
     pub residual: f64,
     pub trials: usize,
-    pub first: Bracket,
-    pub last: Bracket,
+    pub first: Interval,
+    pub last: Interval,
 }

@@ -11,32 +11,23 @@ ghost use Rattle.gerg_derivatives.specs.Powers.{power_cell, powers_of};
 use elementary::power as elementary_power;
 use elementary_exp::exp;
 
-// A reduced density with its logarithm, and the cells that `powers` makes of them, lent.
+// The cells that `powers` makes of a reduced density, lent. One array and no three: the definition `powers_of` is one list with these places, and one loop makes it.
 #[derive(Clone, Copy)]
-pub struct ReducedDensity<'a> {
+pub struct SmallPowers<'a> {
     pub delta: f64,
-    pub logarithm: f64,
     pub cells: &'a [f64; 24],
-    pub ghost logarithm_is: { logarithm ≡ ln_of delta },
     pub ghost cells_are: { cells.now ≡ powers_of delta },
 }
 
-impl<'a> ReducedDensity<'a> {
-    // delta to the signed number of a byte, by powf.
-    #[tactic(auto, using(elementary::proofs::Laws::powf_from_ln, crate::proofs::Laws::Powers::power_small))]
-    pub fn power(self, b: u8) -> f64
-        ensures { result ≡ powf_of self.entry.delta (signed_double_of b) }
-    {
-        if b < 8 {
-            return self.cells[usize::from(b)];
-        }
-        elementary_power::powf_of_ln(
-            self.delta,
-            self.logarithm,
-            elementary_power::signed_double(b),
-        )
-    }
+// With the logarithm of the density, which a power with a large exponent takes.
+#[derive(Clone, Copy)]
+pub struct ReducedDensity<'a> {
+    pub small: SmallPowers<'a>,
+    pub logarithm: f64,
+    pub ghost logarithm_is: { logarithm ≡ ln_of small.delta },
+}
 
+impl<'a> SmallPowers<'a> {
     #[tactic(auto, using(crate::proofs::Laws::Powers::damping_small))]
     pub fn damping(self, q: u8) -> f64
         ensures { result ≡ damping_of self.entry.delta q }
@@ -60,6 +51,23 @@ impl<'a> ReducedDensity<'a> {
     }
 }
 
+impl<'a> ReducedDensity<'a> {
+    // delta to the signed number of a byte, by powf.
+    #[tactic(auto, using(elementary::proofs::Laws::powf_from_ln, crate::proofs::Laws::Powers::power_small))]
+    pub fn power(self, b: u8) -> f64
+        ensures { result ≡ powf_of self.entry.small.delta (signed_double_of b) }
+    {
+        if b < 8 {
+            return self.small.cells[usize::from(b)];
+        }
+        elementary_power::powf_of_ln(
+            self.small.delta,
+            self.logarithm,
+            elementary_power::signed_double(b),
+        )
+    }
+}
+
 #[tactic(auto, unfolding(crate::specs::Parts::damping_of))]
 fn plain_damping(delta: f64, q: u8) -> f64
     ensures { result ≡ damping_of delta q }
@@ -71,6 +79,7 @@ fn plain_damping(delta: f64, q: u8) -> f64
 }
 
 // The dampings for q from 0 to 7.
+#[tactic(auto, unfolding(numerics::specs::Fill::tabulate, crate::specs::Parts::damping_of))]
 fn small_dampings(delta: f64) -> [f64; 8]
     ensures { result ≡ tabulate (damping_of delta) 8 }
 {
@@ -79,6 +88,7 @@ fn small_dampings(delta: f64) -> [f64; 8]
     dampings
 }
 
+#[tactic(auto, using(elementary::proofs::Laws::powf_from_ln, numerics::specs::Fill::get_d_tabulate), unfolding(crate::specs::Powers::power_cell))]
 fn cell(dampings: &[f64; 8], delta: f64, logarithm: f64, c: u8) -> f64
     requires { (c < 24) × (logarithm ≡ ln_of delta) × (dampings.now ≡ tabulate (damping_of delta) 8) }
     ensures { result ≡ power_cell delta c }
@@ -92,12 +102,14 @@ fn cell(dampings: &[f64; 8], delta: f64, logarithm: f64, c: u8) -> f64
     exp::exp(-dampings[usize::from(c - 16)])
 }
 
+#[tactic(auto, using(numerics::specs::Fill::fill_begins, numerics::specs::Fill::fill_again, numerics::specs::Fill::fill_whole), unfolding(crate::specs::Powers::powers_of))]
 pub fn powers(delta: f64, logarithm: f64) -> [f64; 24]
     requires { logarithm ≡ ln_of delta }
     ensures { result ≡ powers_of delta }
 {
     let dampings = small_dampings(delta);
     let mut out = [0.0; 24];
+    // Over bytes, which `array::from_fn` is not: it counts in usize.
     for c in 0u8..24 {
         out[usize::from(c)] = cell(&dampings, delta, logarithm, c);
     }

@@ -7,8 +7,9 @@ use gerg_ph::saturation;
 use gerg_prepared::rows;
 use gerg_reducing::lent::Mixture;
 use gerg_refusals::Refusal;
-use gerg_saturation::{Interval, Options, PureSaturation};
+use gerg_saturation::{Options, PureSaturation};
 use gerg_tables::coefficients::Coefficients;
+use interval::Interval;
 
 // The temperature from lo to hi (K) at which the two exterior roots of the pressure (Pa) have one fugacity coefficient, at most `limit` trials between the ends;
 // none where the ends enclose none.

@@ -11,7 +11,8 @@ use Rattle.gerg_refusals.specs.declared.Refusal.TheVariants.{File}
 use Rattle.gerg_refusals.specs.Refusal.{value_of}
 use Rattle.gerg_file.specs.Kinds as Kinds
 use Rattle.gerg_file.specs.Bytes.{term_count}
-use Rattle.gerg_file.specs.File.{Walk, follow, place, chain, counted, numbered, group, component_step, term_row, pair_row, function_step, departure_row, after_revision, after_components, after_terms, after_pairs, function_count, after_functions, after_departures, at_end}
+use Rattle.gerg_refusals.specs.Answer.{and_then}
+use Rattle.gerg_file.specs.File.{Walk, place, chain, counted, numbered, group, component_step, term_row, pair_row, function_step, departure_row, after_revision, after_components, after_terms, after_pairs, function_count, after_functions, after_departures, at_end}
 
 abbrev pub Filed : Walk → Type 0
 Filed w = (r : Refusal) → w ≡ Err r → r ≡ File (value_of r)
@@ -20,7 +21,7 @@ pick_filed : (b : Bool) (at bad : ℕ) → Filed (pick b (Ok at) (Err (File bad)
 pick_filed true at bad r e = let z : ◌≡◌ {A = ℕ} 0 1 = cc in absurd (omega arith)
 pick_filed false at bad r e = let q : File bad ≡ r = cc in rw (sym q)
 
-follow_filed : (w : Walk) (f : ℕ → Walk) → Filed w → ((at : ℕ) → Filed (f at)) → Filed (follow w f)
+follow_filed : (w : Walk) (f : ℕ → Walk) → Filed w → ((at : ℕ) → Filed (f at)) → Filed (and_then w f)
 follow_filed (Ok at) f h g r e = g at r e
 follow_filed (Err r) f h g q e = h q e
 
@@ -72,5 +73,5 @@ module _ (s : List ℕ) where
       follow_filed (after_functions s) (chain (departure_row s (place (after_pairs s))) (function_count s) 1) functions_filed
       (groups_filed _ _ _ _ _ (function_count s))
 
-  pub end_filed : Filed (follow (after_departures s) (at_end s))
+  pub end_filed : Filed (and_then (after_departures s) (at_end s))
   end_filed = follow_filed (after_departures s) (at_end s) departures_filed (λ at. pick_filed _ at at)

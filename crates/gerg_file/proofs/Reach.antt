@@ -8,12 +8,13 @@ use native.Mathlib.Omega.{arith}
 use lib.Dec.{leb, eqb}
 use lib.ListN.{length}
 use Rattle.numerics.specs.Double.{pick}
+use Rattle.gerg_refusals.specs.Answer.{and_then}
 use Rattle.gerg_file.specs.File.{Walk}
 use Rattle.std.specs.Prelude.{Ok, Err}
 use Rattle.gerg_refusals.specs.declared.Refusal.TheVariants.{File}
 use Rattle.gerg_file.specs.Kinds as Kinds
 use Rattle.gerg_file.specs.Bytes.{byte, term_count}
-use Rattle.gerg_file.specs.File.{follow, place, chain, counted, numbered, group, component_step, term_row, pair_row, function_step, departure_row, same_at, revision, after_revision, after_components, after_terms, after_pairs, function_count, after_functions, after_departures, at_end}
+use Rattle.gerg_file.specs.File.{place, chain, counted, numbered, group, component_step, term_row, pair_row, function_step, departure_row, same_at, revision, after_revision, after_components, after_terms, after_pairs, function_count, after_functions, after_departures, at_end}
 use Rattle.gerg_file.proofs.WellFormed.{components_limit, functions_limits, count_at_most}
 
 -- the bytes of n things from number i on, where number h has at most size h
@@ -31,7 +32,7 @@ unfolding room
 room_of_pairs = refl
 
 -- where a walk stands that goes on, and after a test
-follow_place : (w : Walk) (f : ℕ → Walk) (a b : ℕ) → place w ≤ a → ((p : ℕ) → w ≡ Ok p → p ≤ a → place (f p) ≤ p + b) → place (follow w f) ≤ a + b
+follow_place : (w : Walk) (f : ℕ → Walk) (a b : ℕ) → place w ≤ a → ((p : ℕ) → w ≡ Ok p → p ≤ a → place (f p) ≤ p + b) → place (and_then w f) ≤ a + b
 follow_place (Ok p) f a b h g = let r = g p refl h in omega arith
 follow_place (Err r) f a b h g = omega arith
 
@@ -168,7 +169,7 @@ module _ (s : List ℕ) where
       (omega arith) (omega arith) in
       omega arith)
 
-  pub end_place : place (follow (after_departures s) (at_end s)) ≤ departures_end
+  pub end_place : place (and_then (after_departures s) (at_end s)) ≤ departures_end
   end_place =
       let r = follow_place (after_departures s) (at_end s) departures_end 0 departures_place
       (λ p e h. pick_place (eqb p (length s)) p p (p + 0) (omega arith) (omega arith)) in

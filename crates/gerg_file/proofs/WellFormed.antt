@@ -10,16 +10,17 @@ use lib.Dec.{leb, eqb}
 use lib.ListN.{length}
 use Rattle.numerics.specs.Tests.{and_true}
 use Rattle.numerics.specs.Double.{pick}
+use Rattle.gerg_refusals.specs.Answer.{and_then}
 use Rattle.gerg_file.specs.File.{Walk}
 use Rattle.std.specs.Prelude.{Ok, Err}
 use Rattle.gerg_refusals.specs.declared.Refusal.TheVariants.{File}
 use Rattle.gerg_file.specs.declared.Layout.{Layout}
 use Rattle.gerg_file.specs.Kinds as Kinds
 use Rattle.gerg_file.specs.Bytes.{byte, term_count}
-use Rattle.gerg_file.specs.File.{follow, place, chain, counted, component_step, term_row, pair_row, function_step, departure_row, functions, same_at, revision, after_revision, after_components, after_terms, after_pairs, function_count, after_functions, after_departures, at_end, verdict, file_of}
+use Rattle.gerg_file.specs.File.{place, chain, counted, component_step, term_row, pair_row, function_step, departure_row, functions, same_at, revision, after_revision, after_components, after_terms, after_pairs, function_count, after_functions, after_departures, at_end, verdict, file_of}
 
 -- a walk that came through: so did each of its parts
-pub follow_to : (w : Walk) (f : ℕ → Walk) (p : ℕ) → follow w f ≡ Ok p → (w ≡ Ok (place w)) × (f (place w) ≡ Ok p)
+pub follow_to : (w : Walk) (f : ℕ → Walk) (p : ℕ) → and_then w f ≡ Ok p → (w ≡ Ok (place w)) × (f (place w) ≡ Ok p)
 follow_to (Ok at) f p e = (refl, e)
 follow_to (Err r) f p e = let z : ◌≡◌ {A = ℕ} 0 1 = cc in absurd (omega arith)
 
@@ -108,9 +109,9 @@ verdict_to s (Ok at) l e =
 verdict_to s (Err r) l e = let z : ◌≡◌ {A = ℕ} 0 1 = cc in absurd (omega arith)
 
 module _ (s : List ℕ) (l : Layout) (e : file_of s ≡ Ok l) where
-  whole : (follow (after_departures s) (at_end s) ≡ Ok l.length) × (record { terms = place (after_components s); pairs = place (after_terms s); functions = place (after_pairs s); count = function_count s; departures = place (after_functions s); length = place (follow (after_departures s) (at_end s)) } ≡ l)
+  whole : (and_then (after_departures s) (at_end s) ≡ Ok l.length) × (record { terms = place (after_components s); pairs = place (after_terms s); functions = place (after_pairs s); count = function_count s; departures = place (after_functions s); length = place (and_then (after_departures s) (at_end s)) } ≡ l)
   unfolding file_of
-  whole = verdict_to s (follow (after_departures s) (at_end s)) l e
+  whole = verdict_to s (and_then (after_departures s) (at_end s)) l e
 
   departures_end : after_departures s ≡ Ok (place (after_departures s))
   departures_end = (follow_to (after_departures s) (at_end s) l.length whole.0).0
@@ -158,7 +159,7 @@ module _ (s : List ℕ) (l : Layout) (e : file_of s ≡ Ok l) where
   pub count_limit : l.count ≤ 10
   count_limit = rw count_is at (count_at_most s)
 
-  through : (p : ℕ) → follow (after_pairs s) (chain (function_step s) (function_count s) 1) ≡ Ok p
+  through : (p : ℕ) → and_then (after_pairs s) (chain (function_step s) (function_count s) 1) ≡ Ok p
       → chain (function_step s) l.count 1 l.functions ≡ Ok p
   through p g = rw (functions_at, count_is) at (follow_to (after_pairs s) (chain (function_step s) (function_count s) 1) p g).1
 
@@ -181,7 +182,7 @@ module _ (s : List ℕ) (l : Layout) (e : file_of s ≡ Ok l) where
       (follow_to (after_departures s) (at_end s) l.length whole.0).1).1
 
   -- the sections, from where each begins to where the next does
-  section : (w : Walk) (f : ℕ → Walk) (a b p : ℕ) → follow w f ≡ Ok p → place w ≡ a → p ≡ b → f a ≡ Ok b
+  section : (w : Walk) (f : ℕ → Walk) (a b p : ℕ) → and_then w f ≡ Ok p → place w ≡ a → p ≡ b → f a ≡ Ok b
   section w f a b p g x y = ap f (sym x) ∙ (follow_to w f p g).1 ∙ ap Ok y
 
   pub components_walk : chain (component_step s) 21 1 (Kinds.revision).size ≡ Ok l.terms
@@ -200,7 +201,7 @@ module _ (s : List ℕ) (l : Layout) (e : file_of s ≡ Ok l) where
   unfolding after_functions
   functions_walk = through (place (after_functions s)) functions_end ∙ ap Ok departures_at
 
-  last : (p : ℕ) → follow (after_functions s) (chain (departure_row s (place (after_pairs s))) (function_count s) 1) ≡ Ok p
+  last : (p : ℕ) → and_then (after_functions s) (chain (departure_row s (place (after_pairs s))) (function_count s) 1) ≡ Ok p
       → chain (departure_row s l.functions) l.count 1 l.departures ≡ Ok p
   last p g = rw (departures_at, functions_at, count_is) at (follow_to (after_functions s) (chain (departure_row s (place (after_pairs s))) (function_count s) 1) p g).1
 

@@ -7,25 +7,21 @@ use Rattle.gerg_file.specs.declared.Layout.{Layout}
 use Rattle.gerg_refusals.specs.declared.Refusal.{Refusal}
 use Rattle.gerg_refusals.specs.declared.Refusal.TheVariants.{File}
 use Rattle.gerg_refusals.specs.Refusal.{value_of}
+use Rattle.gerg_refusals.specs.Answer.{and_then}
 
 -- where a walk over records has come: past the last, or to the start of the first bad one
 abbrev pub Walk : Type 0
 Walk = Result ℕ Refusal
-
--- on from where the walk has come, unless it met a bad record
-abbrev pub follow : Walk → (ℕ → Walk) → Walk
-follow (Ok at) f = f at
-follow (Err r) f = Err r
 
 -- where a walk has come
 abbrev pub place : Walk → ℕ
 place (Ok at) = at
 place (Err r) = value_of r
 
--- n things in a row, numbered from i, of which each begins where the one before ended
+-- n things in a row, numbered from i, of which each begins where the one before ended, up to the first bad record
 unfoldable pub chain : (ℕ → ℕ → Walk) → ℕ → ℕ → ℕ → Walk
 chain step zero i at = Ok at
-chain step (suc n) i at = follow (step i at) (chain step n (i + 1))
+chain step (suc n) i at = and_then (step i at) (chain step n (i + 1))
 
 -- a good record is passed, and a bad one refused at its start
 abbrev pub passed : Bool → ℕ → ℕ → Walk
@@ -88,26 +84,26 @@ after_revision s = pick (eqb (byte s 0) (Kinds.revision).kind && same_at s 1 rev
 
 -- 21 of kind 2,
 unfoldable pub after_components : List ℕ → Walk
-after_components s = follow (after_revision s) (chain (component_step s) 21 1)
+after_components s = and_then (after_revision s) (chain (component_step s) 21 1)
 
 -- all kpol + kexp terms (at most 24) of each component,
 unfoldable pub after_terms : List ℕ → Walk
-after_terms s = follow (after_components s) (chain (term_row s) 21 1)
+after_terms s = and_then (after_components s) (chain (term_row s) 21 1)
 
 -- the 231 pairs i ≤ j,
 unfoldable pub after_pairs : List ℕ → Walk
-after_pairs s = follow (after_terms s) (chain (pair_row s) 21 1)
+after_pairs s = and_then (after_terms s) (chain (pair_row s) 21 1)
 
 -- 0 to 10 departure functions, (an eleventh is refused by the next section, at the same offset)
 unfoldable pub function_count : List ℕ → ℕ
 function_count s = functions s 10 (place (after_pairs s))
 
 unfoldable pub after_functions : List ℕ → Walk
-after_functions s = follow (after_pairs s) (chain (function_step s) (function_count s) 1)
+after_functions s = and_then (after_pairs s) (chain (function_step s) (function_count s) 1)
 
 -- all their terms (at most 12 each)"
 unfoldable pub after_departures : List ℕ → Walk
-after_departures s = follow (after_functions s) (chain (departure_row s (place (after_pairs s))) (function_count s) 1)
+after_departures s = and_then (after_functions s) (chain (departure_row s (place (after_pairs s))) (function_count s) 1)
 
 -- no "bytes over"
 abbrev pub at_end : List ℕ → ℕ → Walk
@@ -115,8 +111,9 @@ at_end s at = pick (eqb at (length s)) (Ok at) (Err (File at))
 
 -- "offset of that record, or of the first byte over", or where the sections begin
 unfoldable pub verdict : List ℕ → Walk → Result Layout Refusal
-verdict s (Err r) = Err r
-verdict s (Ok at) =
+verdict s walk =
+    and_then walk
+    (λ at.
     Ok
     (record {
       terms = place (after_components s);
@@ -125,7 +122,7 @@ verdict s (Ok at) =
       count = function_count s;
       departures = place (after_functions s);
       length = at;
-    })
+    }))
 
 unfoldable pub file_of : List ℕ → Result Layout Refusal
-file_of s = verdict s (follow (after_departures s) (at_end s))
+file_of s = verdict s (and_then (after_departures s) (at_end s))

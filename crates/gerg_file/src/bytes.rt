@@ -1,4 +1,5 @@
 // The numbers that stand in a coefficient file. A byte past the file's end is 0.
+// Functions take the whole file and a place, no slice from the place on: a refusal tells the offset from the file's start, and a walk may come past its end.
 ghost use Rattle.std.specs.Prelude.{◌≡◌, ◌+◌, ◌*◌, ◌^◌, ◌≤◌, ◌<◌, length};
 ghost use Rattle.std.specs.Float.Ieee.{of_bits};
 ghost use Rattle.std.specs.Float.{binary64};
@@ -7,7 +8,7 @@ ghost use Rattle.gerg_file.specs.Bytes.{byte, term_count, word, double_at};
 pub fn byte_at(s: &[u8], at: usize) -> usize
     ensures { (result ≡ byte s.now at) × ((result < 256) × (0 < result → at < length s.now)) }
 {
-    if at < s.len() { usize::from(s[at]) } else { 0 }
+    s.get(at).map_or(0, |byte| usize::from(*byte))
 }
 
 // The two counts that stand `offset` bytes past `base`, together.
@@ -23,24 +24,14 @@ pub fn term_count(s: &[u8], base: usize, offset: usize) -> usize
     a + b
 }
 
-// A byte of the file.
-pub fn byte_inside(s: &[u8], at: usize) -> usize
-    requires { at < length s.now }
-    ensures { (result ≡ byte s.now at) × (result < 256) }
-{
-    usize::from(s[at])
-}
-
 // The kind and two leading numbers of a record of at least 4 bytes, as one number: with the byte after them this is one load.
 pub fn head(s: &[u8], at: usize) -> usize
     requires { at + 4 ≤ length s.now }
     ensures { (result ≡ byte s.now at + 256 * byte s.now (at + 1) + 65536 * byte s.now (at + 2)) × ((byte s.now at < 256) × (byte s.now (at + 1) < 256)) }
 {
-    let word = byte_inside(s, at)
-        + 256
-            * (byte_inside(s, at + 1)
-                + 256 * (byte_inside(s, at + 2) + 256 * byte_inside(s, at + 3)));
-    word % 16777216
+    let word = u32::from_le_bytes([s[at], s[at + 1], s[at + 2], s[at + 3]]);
+    // 32 bits have no `From` into a `usize`, and `try_from` would have an error that never comes.
+    word as usize % 16777216
 }
 
 // The 8 bytes at a place where the file has all of them: without a test for each of them this is one load.
@@ -48,15 +39,16 @@ pub fn word_inside(s: &[u8], at: usize) -> u64
     requires { at + 8 ≤ length s.now }
     ensures { result ≡ word s.now at }
 {
-    let low = byte_inside(s, at)
-        + 256
-            * (byte_inside(s, at + 1)
-                + 256 * (byte_inside(s, at + 2) + 256 * byte_inside(s, at + 3)));
-    let high = byte_inside(s, at + 4)
-        + 256
-            * (byte_inside(s, at + 5)
-                + 256 * (byte_inside(s, at + 6) + 256 * byte_inside(s, at + 7)));
-    (low + 4294967296 * high) as u64
+    u64::from_le_bytes([
+        s[at],
+        s[at + 1],
+        s[at + 2],
+        s[at + 3],
+        s[at + 4],
+        s[at + 5],
+        s[at + 6],
+        s[at + 7],
+    ])
 }
 
 // The double of a bit pattern; every pattern of a NaN is the one NaN.

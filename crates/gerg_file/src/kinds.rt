@@ -4,6 +4,7 @@ ghost use Rattle.std.specs.Prelude.{◌≤◌, ◌<◌};
 
 #[derive(Clone, Copy)]
 pub struct Kind {
+    // the byte that a record begins with; a number, since it is compared with the file's alone
     pub kind: usize,
     // the bytes of the whole record, kind byte included
     pub size: usize,

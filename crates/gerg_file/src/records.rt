@@ -13,7 +13,7 @@ fn holds(s: &[u8], at: usize, size: usize) -> bool
     at <= s.len() && size <= s.len() - at
 }
 
-// `count` steps, numbered from `first`, each from where the one before ended.
+// `count` steps, numbered from `first`, each from where the one before ended, which only that step tells.
 pub fn run<F: Fn(usize, usize) -> Result<usize, Refusal>>(
     first: usize,
     count: usize,
@@ -52,7 +52,7 @@ pub fn counted_record(
     Err(Refusal::File { offset: at })
 }
 
-// One record of a kind with two leading numbers.
+// One record of a kind with two leading numbers. `lead` is a usize with a bound and no u8: it comes from the number of a step and goes into a sum of usize.
 fn numbered_record(
     s: &[u8],
     kind: Kind,
@@ -85,14 +85,13 @@ fn numbered_inside(
     requires room { at + kind.size * count ≤ length s.now }
     ensures { result ≡ chain (numbered s.now kind.kind kind.size lead) count first at }
 {
-    let mut place = at;
     for number in first..first + count {
+        let place = at + kind.size * (number - first);
         if head(s, place) != kind.kind + 256 * lead + 65536 * number {
             return Err(Refusal::File { offset: place });
         }
-        place += kind.size;
     }
-    Ok(place)
+    Ok(at + kind.size * count)
 }
 
 // `count` records with two leading numbers, of which the first is `lead` and the second counts from `first`.

@@ -50,7 +50,7 @@ pub fn pairs(s: &[u8], at: usize) -> Result<usize, Refusal>
     )
 }
 
-// How many departure functions there are.
+// How many departure functions there are. Their place is kept from turn to turn: `at` may be any number, and what bounds the next place is that a record was found at the last.
 pub fn function_count(s: &[u8], at: usize) -> usize
     ensures { (result ≡ functions s.now 10 at) × (result ≤ 10) }
 {

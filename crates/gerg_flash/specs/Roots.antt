@@ -1,6 +1,7 @@
 -- The exterior roots: what a root gives, the search, and the answer.
 use Rattle.std.specs.Prelude.{List, [], ◌∷◌, ℕ, Float, length, replicate, Result, Ok, Err}
 use Rattle.numerics.specs.Double.{+0, pick}
+use Rattle.gerg_refusals.specs.Answer.{and_then}
 use Rattle.gerg_refusals.specs.declared.Refusal.{Refusal}
 use Rattle.gerg_refusals.specs.declared.Refusal.TheVariants as refusal
 use Rattle.gerg_tables.specs.declared.Tables.{Tables}
@@ -19,12 +20,11 @@ unfoldable pub head_of : Float → GergState → List Float
 head_of rho s = rho ∷ s.pressure_pa ∷ s.compressibility ∷ s.gibbs_energy ∷ []
 
 unfoldable pub checked_of : Tables → GergModel → List (List Float) → Float → Float → GergState → Result (Unit {0}) Refusal → Outcome
-checked_of t m gradients temperature rho s (Ok passed) = Ok (record { head = head_of rho s; coefficients = fugacity_memory t m gradients s temperature rho (replicate 21 +0) })
-checked_of t m gradients temperature rho s (Err r) = Err r
+checked_of t m gradients temperature rho s check =
+    and_then check (λ passed. Ok (record { head = head_of rho s; coefficients = fugacity_memory t m gradients s temperature rho (replicate 21 +0) }))
 
 unfoldable pub state_of : Tables → GergModel → List (List Float) → Float → Float → Result GergState Refusal → Outcome
-state_of t m gradients temperature rho (Ok s) = checked_of t m gradients temperature rho s (fugacity_of t m gradients s temperature rho)
-state_of t m gradients temperature rho (Err r) = Err r
+state_of t m gradients temperature rho state = and_then state (λ s. checked_of t m gradients temperature rho s (fugacity_of t m gradients s temperature rho))
 
 -- the state at a root's density, then its fugacity coefficients
 unfoldable pub root_at : Tables → GergModel → List (List Float) → Range → Float → Float → Outcome

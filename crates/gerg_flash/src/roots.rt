@@ -7,10 +7,9 @@ ghost use Rattle.gerg_scan_steps.specs.Answers.{leaves};
 ghost use Rattle.gerg_grid.specs.Grid.{grid_of};
 ghost use Rattle.gerg_flash.specs.Roots as is;
 
-use crate::settle;
+use crate::{SoughtRoots, settle};
 use gerg::Range;
 use gerg_grid::grid;
-use gerg_isotherm::isotherm;
 use gerg_isotherm::lent::Isotherm;
 use gerg_reducing::lent::Mixture;
 use gerg_refusals::Refusal;
@@ -30,21 +29,15 @@ pub fn exterior_roots(
     requires { grid.now ≡ grid_of }
     ensures { leaves result roots.new.items ≡ is.searched_of (lent mixture.entry.coefficients) mixture.entry.model.now mixture.entry.gradients.now range temperature pressure }
 {
-    let coefficients = mixture.coefficients;
-    let cells = isotherm::isotherm(coefficients, mixture.model, temperature);
-    let isotherm = Isotherm {
-        coefficients,
-        model: mixture.model,
-        temperature,
-        cells: &cells,
-    };
-    let sought = Sought {
+    let mut cells = [0.0; 939];
+    let isotherm = Isotherm::of(mixture.coefficients, mixture.model, temperature, &mut cells);
+    let densities = Sought {
         isotherm,
-        gradients: mixture.gradients,
         range,
         pressure,
     };
-    let scan = sampling::scan(grid, sought)?;
+    let scan = sampling::scan(grid, densities)?;
+    let sought = SoughtRoots { densities, mixture };
     settle::settle(&scan, sought, roots)
 }
 

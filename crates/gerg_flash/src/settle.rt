@@ -7,27 +7,22 @@ ghost use Rattle.gerg_scan_steps.specs.Answers.{leaves};
 ghost use Rattle.gerg_root_list.specs.RootList as is;
 ghost use Rattle.gerg_flash.specs.SoughtRoots.{root_for};
 
+use crate::SoughtRoots;
 use gerg::evaluate;
 use gerg_fugacity::fugacity;
-use gerg_reducing::lent::Mixture;
 use gerg_refusals::Refusal;
 use gerg_root_list::{Root, Roots, answer};
-use gerg_scan::Sought;
 use gerg_scan_steps::{Point, Scan};
 
 // The state at a root's density, then its fugacity coefficients.
-fn root(sought: Sought, rho: f64) -> Result<Root, Refusal>
+fn root(sought: SoughtRoots, rho: f64) -> Result<Root, Refusal>
     ensures { result ≡ root_for sought.entry rho }
 {
-    let isotherm = sought.isotherm;
-    let state = evaluate::evaluate_at(isotherm, sought.range, rho)?;
-    let mixture = Mixture {
-        coefficients: isotherm.coefficients,
-        model: isotherm.model,
-        gradients: sought.gradients,
-    };
+    let isotherm = sought.densities.isotherm;
+    let t = isotherm.temperature;
+    let state = evaluate::evaluate_at(isotherm, sought.densities.range, rho)?;
     let mut coefficients = [0.0; 21];
-    fugacity::fugacity(mixture, state, isotherm.temperature, rho, &mut coefficients)?;
+    fugacity::fugacity(sought.mixture, state, t, rho, &mut coefficients)?;
     Ok(Root {
         head: [
             rho,
@@ -40,14 +35,14 @@ fn root(sought: Sought, rho: f64) -> Result<Root, Refusal>
 }
 
 // One root of the scan.
-fn keep(roots: &mut Roots, scan: &Scan, sought: Sought, found: Point) -> Result<(), Refusal>
+fn keep(roots: &mut Roots, scan: &Scan, sought: SoughtRoots, found: Point) -> Result<(), Refusal>
     requires { array_vec_len roots.old < 386 }
-    ensures { leaves result roots.new.items ≡ is.keep_step (root_for sought.entry) sought.entry.pressure scan.now.first_negative scan.now.last_negative found roots.old.items }
+    ensures { leaves result roots.new.items ≡ is.keep_step (root_for sought.entry) sought.entry.densities.pressure scan.now.first_negative scan.now.last_negative found roots.old.items }
 {
     if (scan.first_negative < found.density) & (found.density < scan.last_negative) {
         return Ok(());
     }
-    if found.residual > answer::limit(sought.pressure) {
+    if found.residual > answer::limit(sought.densities.pressure) {
         return Err(Refusal::RootNotConverged);
     }
     roots.push(root(sought, found.density)?);
@@ -55,8 +50,8 @@ fn keep(roots: &mut Roots, scan: &Scan, sought: Sought, found: Point) -> Result<
 }
 
 // All roots of a scan, in order.
-pub fn settle(scan: &Scan, sought: Sought, roots: &mut Roots) -> Result<(), Refusal>
-    ensures { leaves result roots.new.items ≡ is.kept_of (root_for sought.entry) sought.entry.pressure scan.now }
+pub fn settle(scan: &Scan, sought: SoughtRoots, roots: &mut Roots) -> Result<(), Refusal>
+    ensures { leaves result roots.new.items ≡ is.kept_of (root_for sought.entry) sought.entry.densities.pressure scan.now }
 {
     roots.clear();
     for found in scan.roots.iter() {

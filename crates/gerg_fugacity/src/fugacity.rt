@@ -1,4 +1,5 @@
 // Fugacity coefficients of a state: ln φ of each listed component.
+// A place stays a usize with its bound in the clause: loops and readers have it so, and a type of places would be made and taken apart at each call.
 #![tactic(auto, unfolding(crate::specs::Fugacity::through_reducing, gerg_reducing::specs::Reducing::bumped, crate::specs::Fugacity::ln_phi))]
 
 ghost use Rattle.std.specs.Prelude.{◌≡◌, ◌≤◌, ◌<◌, length, get_or};
@@ -35,18 +36,20 @@ fn molar_gradient(mixture: Mixture, a: GergDerivatives, t: f64, rho: f64) -> [f6
     let delta = rho / model.reducing_density;
     let tau = model.reducing_temperature / t;
     let mut h = composition::composition(mixture.coefficients, &model.fractions, delta, tau);
+    // i is a component, and so a place in three arrays
     for i in 0..21 {
         through_reducing(mixture, a, i, &mut h);
     }
     h
 }
 
+// No `sum`, which begins at −0: of products that are all −0 it gives −0, and this 0.
 fn weighted_sum(x: &[f64; 21], g: &[f64; 21]) -> f64
     ensures { result ≡ fug.weighted_sum x.now g.now }
 {
     let mut sum = 0.0;
-    for i in 0..21 {
-        sum += x[i] * g[i];
+    for (fraction, derivative) in x.iter().zip(g) {
+        sum += *fraction * *derivative;
     }
     sum
 }
@@ -58,7 +61,7 @@ fn ln_phi(derivatives: GergDerivatives, derivative: f64, weighted: f64, ln_z: f6
     derivatives.ar + derivatives.ar_d + derivative - weighted - ln_z
 }
 
-// ln φ of each listed component, in list order.
+// ln φ of each listed component, in list order. t and rho stay parameters, here and below: no clause asks that they are the state's, and to ask it would be more.
 fn ln_phis(mixture: Mixture, state: GergState, t: f64, rho: f64) -> [f64; 21]
     ensures { result ≡ fug.ln_phis (lent mixture.entry.coefficients) mixture.entry.model.now mixture.entry.gradients.now state t rho }
 {
@@ -68,9 +71,10 @@ fn ln_phis(mixture: Mixture, state: GergState, t: f64, rho: f64) -> [f64; 21]
     let weighted = weighted_sum(&model.fractions, &g);
     let ln_z = ln(state.compressibility);
     let mut values = [0.0; 21];
-    for k in 0..model.components {
-        let component = usize::from(model.component_indices[k]);
-        values[k] = ln_phi(a, g[component], weighted, ln_z);
+    let listed = &model.component_indices[..model.components];
+    // By index, as `gerg_model::mixture::indices`; of the 21 places as many count as the model lists.
+    for (k, component) in listed.iter().enumerate() {
+        values[k] = ln_phi(a, g[usize::from(*component)], weighted, ln_z);
     }
     values
 }
@@ -89,8 +93,7 @@ pub fn fugacity(
 {
     let values = ln_phis(mixture, state, t, rho);
     let n = mixture.model.components;
-    let end = mixture::first_nonfinite(&values, n);
-    if end == n {
+    if mixture::first_nonfinite(&values[..n]).is_none() {
         out[..n].copy_from_slice(&values[..n]);
         return Ok(());
     }

@@ -1,3 +1,2 @@
--- The grid of densities, and what an array that holds it has.
+-- The grid of densities.
 pub mod Grid
-pub mod GridArray

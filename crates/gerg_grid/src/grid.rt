@@ -6,7 +6,6 @@ ghost use Rattle.arrayvec.specs.ArrayVec.{array_vec_len};
 ghost use Rattle.numerics.specs.Double.{◌⊘◌};
 ghost use Rattle.elementary_ln.specs.Ln.{ln_of};
 ghost use Rattle.gerg_grid.specs.Grid.{lowest, highest, logarithmic_point, even_point, clamped, point_at, sorted_points, same_as_last, kept, grid_of};
-ghost use Rattle.gerg_grid.specs.GridArray.{insert_from};
 
 use crate::Points;
 use elementary_exp::exp;
@@ -21,15 +20,16 @@ fn logarithmic_point(i: u32, span: f64) -> f64
     requires { span ≡ ln_of (highest ⊘ lowest) }
     ensures { result ≡ logarithmic_point i }
 {
-    LOWEST * exp::exp(i as f64 / 128.0 * span)
+    LOWEST * exp::exp(f64::from(i) / 128.0 * span)
 }
 
 fn even_point(i: u32) -> f64
     ensures { result ≡ even_point i }
 {
-    LOWEST + i as f64 / 256.0 * (HIGHEST - LOWEST)
+    LOWEST + f64::from(i) / 256.0 * (HIGHEST - LOWEST)
 }
 
+// Not `f64::clamp`, which leaves a NaN one: the definition sends it to the low end.
 fn clamp(x: f64) -> f64
     ensures { result ≡ clamped x }
 {
@@ -42,6 +42,7 @@ fn clamp(x: f64) -> f64
     LOWEST
 }
 
+// By the number of the point, as its definition is: of two ranges in a chain it would have to be shown besides that item k is point k.
 fn point(k: u32, span: f64) -> f64
     requires { span ≡ ln_of (highest ⊘ lowest) }
     ensures { result ≡ point_at k }
@@ -52,33 +53,18 @@ fn point(k: u32, span: f64) -> f64
     clamp(even_point(k - 129))
 }
 
-// v among the first n elements, which are sorted: the greater ones move up by one.
-fn insert(a: &mut [f64; 386], n: usize, v: f64)
-    requires { n < 386 }
-    ensures { a.new ≡ insert_from n v a.old }
-{
-    for j in (0..n).rev() {
-        let u = a[j];
-        if v < u {
-            a[j + 1] = u;
-        } else {
-            a[j + 1] = v;
-            return;
-        }
-    }
-    a[0] = v;
-}
-
-fn sorted_points() -> [f64; 386]
-    ensures { result ≡ sorted_points }
+// Each point is put behind those that are not above it.
+fn sorted_points() -> Points
+    ensures { result.items ≡ sorted_points }
 {
     let span = ln::ln(HIGHEST / LOWEST);
-    let mut a = [0.0; 386];
+    let mut sorted = Points::new();
     for k in 0..386u32 {
         let v = point(k, span);
-        insert(&mut a, k as usize, v);
+        let at = sorted.partition_point(|u| !(v < *u));
+        sorted.insert(at, v);
     }
-    a
+    sorted
 }
 
 // Whether x equals the last of the points.
@@ -107,7 +93,7 @@ pub fn grid() -> Points
 {
     let sorted = sorted_points();
     let mut points = Points::new();
-    for x in &sorted {
+    for x in sorted.as_slice() {
         keep(&mut points, *x);
     }
     points

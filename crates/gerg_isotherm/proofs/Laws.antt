@@ -1,6 +1,5 @@
 -- What the cells hold, and that the isotherm holds all that the sums read.
 pub mod Rows
-pub mod SumRows
 pub mod Written
 pub mod Kept
 pub mod Ideal

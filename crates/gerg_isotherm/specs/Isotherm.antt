@@ -10,11 +10,13 @@ use Rattle.numerics.specs.Double.{◌⊗◌, ◌⊘◌, +0, pick}
 use Rattle.numerics.specs.Iterate.{iter, range}
 use Rattle.elementary_ln.specs.Ln.{ln_of}
 use Rattle.elementary.specs.Power.{powf_of, powi_byte_of}
-use Rattle.elementary.specs.Hyperbolic.{sinh_of, cosh_of, tanh_of}
 use Rattle.gerg_tables.specs.declared.Tables.{Tables}
 use Rattle.gerg_tables.specs.Tables.{n0i, th0i, toik, tijk, kpol, kexp, m_numb, kpolij, kexpij}
 use Rattle.gerg_reducing.specs.declared.GergModel.{GergModel}
 use Rattle.gerg_reducing.specs.Reduced.{absent, tau_of}
+use Rattle.gerg_isotherm.specs.declared.part.Part.{Part}
+use Rattle.gerg_isotherm.specs.declared.part.Part.TheVariants.{Sinh, Cosh}
+use Rattle.gerg_isotherm.specs.Parts.{function, slope}
 
 -- f 0, f 1, .., f (n - 1) written from a place on
 unfoldable pub written : (ℕ → Float) → ℕ → ℕ → List Float → List Float
@@ -36,28 +38,21 @@ departure_cell doubles tau m k = powf_of tau (tijk doubles m k)
 unfoldable pub base_cell : List Float → Float → Float → ℕ → ℕ → Float
 base_cell doubles x temperature i = three (ln_of x) (n0i doubles i 1 ⊘ temperature) (n0i doubles i 2 ⊗ ln_of temperature)
 
--- what the sinh and cosh terms add to a0 and its derivatives
-unfoldable pub sinh_cell_of : Float → Float → Float → ℕ → Float
-sinh_cell_of x c v = three (x ⊗ c ⊗ ln_of (sinh_of v)) (x ⊗ c ⊗ v ⊘ tanh_of v) (x ⊗ c ⊗ powi_byte_of (v ⊘ sinh_of v) 2)
-
-unfoldable pub cosh_cell_of : Float → Float → Float → ℕ → Float
-cosh_cell_of x c v = three (x ⊗ c ⊗ ln_of (cosh_of v)) (x ⊗ c ⊗ v ⊗ tanh_of v) (x ⊗ c ⊗ powi_byte_of (v ⊘ cosh_of v) 2)
+-- what a part adds to a0 and its derivatives, or takes from them: c its coefficient, v the quotient of its th0i and T
+unfoldable pub cell_of : Part → Float → Float → Float → ℕ → Float
+cell_of part x c v = three (x ⊗ c ⊗ ln_of (function part v)) (slope part (x ⊗ c ⊗ v) v) (x ⊗ c ⊗ powi_byte_of (v ⊘ function part v) 2)
 
 -- three numbers of the ideal part, left where th0i is 0
-unfoldable pub sinh_row : List Float → Float → Float → ℕ → ℕ → ℕ → List Float → List Float
-sinh_row doubles x temperature i j at l =
-    pick (eq (th0i doubles i j) +0) l (written (sinh_cell_of x (n0i doubles i (3 + j)) (th0i doubles i j ⊘ temperature)) at 3 l)
-
-unfoldable pub cosh_row : List Float → Float → Float → ℕ → ℕ → ℕ → List Float → List Float
-cosh_row doubles x temperature i j at l =
-    pick (eq (th0i doubles i j) +0) l (written (cosh_cell_of x (n0i doubles i (3 + j)) (th0i doubles i j ⊘ temperature)) at 3 l)
+unfoldable pub part_row : Part → List Float → Float → Float → ℕ → ℕ → ℕ → List Float → List Float
+part_row part doubles x temperature i j at l =
+    pick (eq (th0i doubles i j) +0) l (written (cell_of part x (n0i doubles i (3 + j)) (th0i doubles i j ⊘ temperature)) at 3 l)
 
 unfoldable pub ideal_row : List Float → Float → Float → ℕ → List Float → List Float
 ideal_row doubles x temperature i l =
-    cosh_row doubles x temperature i 3 (636 + 15 * i)
-    (sinh_row doubles x temperature i 2 (633 + 15 * i)
-    (cosh_row doubles x temperature i 1 (630 + 15 * i)
-    (sinh_row doubles x temperature i 0 (627 + 15 * i)
+    part_row Cosh doubles x temperature i 3 (636 + 15 * i)
+    (part_row Sinh doubles x temperature i 2 (633 + 15 * i)
+    (part_row Cosh doubles x temperature i 1 (630 + 15 * i)
+    (part_row Sinh doubles x temperature i 0 (627 + 15 * i)
     (written (base_cell doubles x temperature i) (624 + 15 * i) 3 l))))
 
 unfoldable pub pure_row : Tables → Float → ℕ → List Float → List Float

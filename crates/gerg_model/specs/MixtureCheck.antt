@@ -1,5 +1,6 @@
 -- Rows 3 and 4: the component list and the fractions.
-use Rattle.std.specs.Prelude.{Bool, not, ◌&&◌, ◌||◌, List, ℕ, zero, suc, ◌+◌, leb, ltb, eqb, Float, length, get_or, Result, Ok, Err}
+use Rattle.std.specs.Prelude.{Bool, not, ◌&&◌, ◌||◌, List, ℕ, zero, suc, ◌+◌, leb, ltb, eqb, Float, length, get_or, Option, Result, Ok, Err}
+use Rattle.std.specs.Bool.{then_some}
 use Rattle.std.specs.Float.{nan}
 use Rattle.std.specs.Float.Ieee.{lt, le, neg}
 use Rattle.std.specs.Float.Ieee.Scale.{finite}
@@ -12,6 +13,10 @@ use Rattle.gerg_refusals.specs.declared.Refusal.TheVariants.{Components, Fractio
 unfoldable pub first_place : (ℕ → Bool) → ℕ → ℕ → ℕ
 first_place bad zero k = k
 first_place bad (suc n) k = pick (bad k) k (first_place bad n (k + 1))
+
+-- the first place, of the first n, that the test holds of, if there is one
+unfoldable pub found : (ℕ → Bool) → ℕ → Option ℕ
+found bad n = then_some (ltb (first_place bad n 0) n) (first_place bad n 0)
 
 -- "component list .. over 21, number unknown or repeated": place k is past the 21st, or holds no number from 1 to 21, or one that an earlier place holds
 unfoldable pub bad_number : List ℕ → ℕ → Bool

@@ -1,6 +1,6 @@
 // The mixture: component list and fractions (rows 3 and 4), the model, and row 5.
 
-ghost use Rattle.std.specs.Prelude.{◌≡◌, not, ◌≤◌, ◌<◌, eqb, length, get_or};
+ghost use Rattle.std.specs.Prelude.{◌≡◌, ◌<◌, length};
 ghost use Rattle.std.specs.Float.Ieee.Scale.{finite};
 ghost use Rattle.gerg_model.specs.MixtureCheck as check;
 ghost use Rattle.gerg_model.specs.Accepted.{KnownList, Accepted};
@@ -11,42 +11,32 @@ use gerg_reducing::{GergModel, Reduced};
 use gerg_refusals::Refusal;
 use gerg_tables::{named, numbers};
 
-// The first of k places that holds the number, or k.
-fn first_same(list: &[u8], number: u8, k: usize) -> usize
-    requires { k ≤ length list.now }
-    ensures { result ≡ check.first_place (λ j. eqb (get_or list.now j 0) number) k 0 }
-{
-    list[..k].iter().position(|x| *x == number).unwrap_or(k)
-}
-
 #[tactic(auto, unfolding(crate::specs::MixtureCheck::bad_number))]
 fn bad_number(list: &[u8], k: usize) -> bool
     requires { k < length list.now }
     ensures { result ≡ check.bad_number list.now k }
 {
     let number = list[k];
-    let same = first_same(list, number, k);
-    (21 <= k) | (number == 0) | (21 < number) | (same < k)
+    (21 <= k) | (number == 0) | (21 < number) | list[..k].contains(&number)
 }
 
-// Row 3's first bad place, or the list's length.
-pub fn first_bad_number(list: &[u8]) -> usize
-    ensures { result ≡ check.first_place (check.bad_number list.now) (length list.now) 0 }
+// Row 3's first bad place.
+pub fn first_bad_number(list: &[u8]) -> Option<usize>
+    ensures { result ≡ check.found (check.bad_number list.now) (length list.now) }
 {
-    (0..list.len())
-        .position(|k| bad_number(list, k))
-        .unwrap_or(list.len())
+    (0..list.len()).position(|k| bad_number(list, k))
 }
 
-fn first_bad_fraction(fractions: &[f64]) -> usize
-    ensures { result ≡ check.first_place (check.bad_fraction fractions.now) (length fractions.now) 0 }
+fn first_bad_fraction(fractions: &[f64]) -> Option<usize>
+    ensures { result ≡ check.found (check.bad_fraction fractions.now) (length fractions.now) }
 {
     fractions
         .iter()
         .position(|x| !numbers::is_finite(*x) | (*x < 0.0))
-        .unwrap_or(fractions.len())
 }
 
+// A loop, since the iterator's `sum` begins at −0 and the definition at +0.
+#[tactic(auto, using(numerics::specs::Iterate::iter_zero, numerics::specs::Iterate::iter_next), unfolding(crate::specs::MixtureCheck::sum_of))]
 fn sum_of(fractions: &[f64]) -> f64
     ensures { result ≡ check.sum_of fractions.now }
 {
@@ -61,28 +51,27 @@ fn sum_of(fractions: &[f64]) -> f64
 fn adds_up(fractions: &[f64]) -> bool
     ensures { result ≡ check.adds_up fractions.now }
 {
+    // Both ends, as the definition has them: the law of `abs` stands in gerg_search, on which no mixture stands.
     let difference = sum_of(fractions) - 1.0;
     (-1e-9 <= difference) & (difference <= 1e-9)
 }
 
 // Rows 3 and 4, in their order.
-#[tactic(auto, unfolding(crate::specs::MixtureCheck::check_of))]
+#[tactic(auto, using(crate::proofs::Laws::First::found_some, crate::proofs::Laws::First::found_none), unfolding(crate::specs::MixtureCheck::check_of))]
 pub fn check_mixture(list: &[u8], fractions: &[f64]) -> Result<(), Refusal>
     ensures { result ≡ check.check_of list.now fractions.now }
 {
     if list.is_empty() {
         return Err(Refusal::Components { place: 0 });
     }
-    let number = first_bad_number(list);
-    if number < list.len() {
-        return Err(Refusal::Components { place: number });
+    if let Some(place) = first_bad_number(list) {
+        return Err(Refusal::Components { place });
     }
     if fractions.len() != list.len() {
         return Err(Refusal::Fractions { place: list.len() });
     }
-    let fraction = first_bad_fraction(fractions);
-    if fraction < fractions.len() {
-        return Err(Refusal::Fractions { place: fraction });
+    if let Some(place) = first_bad_fraction(fractions) {
+        return Err(Refusal::Fractions { place });
     }
     if !adds_up(fractions) {
         return Err(Refusal::Fractions { place: list.len() });
@@ -90,6 +79,7 @@ pub fn check_mixture(list: &[u8], fractions: &[f64]) -> Result<(), Refusal>
     Ok(())
 }
 
+#[tactic(auto, using(numerics::specs::Iterate::iter_zero, numerics::specs::Iterate::iter_next), unfolding(crate::specs::Mixture::by_component))]
 fn by_component(list: &[u8], fractions: &[f64]) -> [f64; 21]
     requires { Accepted list.now fractions.now }
     ensures { result ≡ mix.by_component list.now fractions.now }
@@ -101,6 +91,8 @@ fn by_component(list: &[u8], fractions: &[f64]) -> [f64; 21]
     x
 }
 
+// By index: of places that are written through a zip over `iter_mut` a proof knows nothing.
+#[tactic(auto, using(numerics::specs::Iterate::iter_zero, numerics::specs::Iterate::iter_next), unfolding(crate::specs::Mixture::indices_of))]
 fn indices(list: &[u8]) -> [u8; 21]
     requires { KnownList list.now }
     ensures { result ≡ mix.indices_of list.now }
@@ -112,6 +104,8 @@ fn indices(list: &[u8]) -> [u8; 21]
     a
 }
 
+// A loop, as in `sum_of`: the iterator's `sum` begins at −0.
+#[tactic(auto, using(numerics::specs::Iterate::iter_zero, numerics::specs::Iterate::iter_next), unfolding(crate::specs::Mixture::molar_mass))]
 fn molar_mass(doubles: &[f64; 4086], x: &[f64; 21]) -> f64
     ensures { result ≡ mix.molar_mass doubles.now x.now }
 {
@@ -143,30 +137,30 @@ pub fn model(doubles: &[f64; 4086], list: &[u8], fractions: &[f64]) -> GergModel
     }
 }
 
-// The first of n values that is not finite, or n.
-pub fn first_nonfinite(values: &[f64; 21], n: usize) -> usize
-    requires { n ≤ 21 }
-    ensures { result ≡ check.first_place (mix.nonfinite_at values.now) n 0 }
+// The first place whose value is not finite.
+pub fn first_nonfinite(values: &[f64]) -> Option<usize>
+    ensures { result ≡ check.found (mix.nonfinite_at values.now) (length values.now) }
 {
-    values[..n]
-        .iter()
-        .position(|x| !numbers::is_finite(*x))
-        .unwrap_or(n)
+    values.iter().position(|x| !numbers::is_finite(*x))
+}
+
+fn all_finite(gradient: &[f64; 21]) -> bool
+    ensures { result ≡ mix.all_finite gradient.now 21 }
+{
+    first_nonfinite(gradient).is_none()
 }
 
 // Row 5: whether the reducing values are finite and positive and the gradients finite.
-#[tactic(auto, unfolding(crate::specs::Mixture::reducing_sound, crate::specs::Mixture::all_finite))]
+#[tactic(auto, unfolding(crate::specs::Mixture::reducing_sound))]
 pub fn reducing_sound(model: GergModel, gradients: &[[f64; 21]; 2]) -> bool
     ensures { result ≡ mix.reducing_sound model gradients.now }
 {
     let temperature = model.reducing_temperature;
     let density = model.reducing_density;
-    let volume_end = first_nonfinite(&gradients[0], 21);
-    let temperature_end = first_nonfinite(&gradients[1], 21);
     numbers::is_finite(temperature)
         & (temperature > 0.0)
         & numbers::is_finite(density)
         & (density > 0.0)
-        & (volume_end == 21)
-        & (temperature_end == 21)
+        & all_finite(&gradients[0])
+        & all_finite(&gradients[1])
 }

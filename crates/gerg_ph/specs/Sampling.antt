@@ -1,6 +1,7 @@
 -- What the exterior roots at a temperature tell of saturation: the closure `sample` of gerg_ph.rs.
 use Rattle.std.specs.Prelude.{List, ℕ, ◌-◌, eqb, Float, Ok, Err, length, get_or}
 use Rattle.numerics.specs.Double.{pick}
+use Rattle.gerg_refusals.specs.Answer.{and_then}
 use Rattle.gerg_refusals.specs.declared.Refusal.TheVariants as refusal
 use Rattle.gerg_tables.specs.declared.Tables.{Tables}
 use Rattle.gerg_reducing.specs.declared.GergModel.{GergModel}
@@ -14,11 +15,12 @@ use Rattle.gerg_saturation.specs.declared.Exterior.TheVariants.{Single}
 
 -- a refusal of the roots; "no exterior root": 23; a single root; else the vapor is the first and the liquid the last
 unfoldable pub roots_sample : Float → ℕ → Float → Float → Kept → Sample
-roots_sample reducing-density place temperature pressure (Ok roots) =
+roots_sample reducing-density place temperature pressure kept =
+    and_then kept
+    (λ roots.
     pick (eqb (length roots) 0) (Err refusal.NoRoot)
     (pick (eqb (length roots) 1) (Ok (Single (sign_of reducing-density (get_or roots 0 no_root).head)))
-    (Ok (coexisting_of place temperature pressure (get_or roots (length roots - 1) no_root) (get_or roots 0 no_root))))
-roots_sample reducing-density place temperature pressure (Err r) = Err r
+    (Ok (coexisting_of place temperature pressure (get_or roots (length roots - 1) no_root) (get_or roots 0 no_root)))))
 
 -- rows 20 and 21, then the roots
 unfoldable pub sample_of : Tables → GergModel → List (List Float) → Range → Float → Float → Sample

@@ -10,7 +10,7 @@ use Rattle.gerg_saturation.specs.Checks.{saturation_refused}
 use Rattle.gerg_saturation.specs.Coexistence.{tried_of}
 use Rattle.gerg_ph.specs.Sampling.{sample_of}
 use Rattle.gerg_saturation.specs.Halvings.{search_of, trials_of}
-use Rattle.gerg_saturation.specs.declared.Interval.{Interval}
+use Rattle.interval.specs.declared.Interval.{Interval}
 
 -- the verdict at a temperature
 unfoldable pub verdict_at : Tables → GergModel → List (List Float) → Range → Float → Float → Tried

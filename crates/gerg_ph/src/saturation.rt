@@ -12,14 +12,15 @@ use gerg_grid::grid;
 use gerg_reducing::lent::Mixture;
 use gerg_refusals::Refusal;
 use gerg_root_list::envelope;
-use gerg_saturation::{Answer, Options, PureSaturation, Tried, Verdict, checks};
+use gerg_saturation::{
+    Answer, Options, PureSaturation, Tried, Verdict, checks, coexistence, halving,
+};
 
 #[tactic(auto, unfolding(crate::specs::Saturation::verdict_at, gerg_saturation::specs::Coexistence::tried_of))]
 fn verdict_at(isobar: Isobar, temperature: f64) -> Tried
     ensures { result ≡ verdict_along isobar.entry temperature }
 {
-    let roots = sampling::sample(isobar, temperature)?;
-    Ok(roots.verdict())
+    coexistence::tried(sampling::sample(isobar, temperature))
 }
 
 // The halvings; `trials` counts the middles strictly between the ends.
@@ -31,7 +32,7 @@ fn halvings(isobar: Isobar, options: Options) -> Answer
     let mut trials = 0;
     for k in 0..options.limit {
         let x = b.middle();
-        trials = b.counted(trials, x);
+        trials = halving::counted(b, trials, x);
         match verdict_at(isobar, x)? {
             Verdict::Accepted(s) => {
                 let iterations = k + 1;
@@ -76,7 +77,7 @@ pub fn pure_saturation(mixture: Mixture, range: Range, pressure: f64, options: O
     let b = options.interval;
     let model = mixture.model;
     let p = checks::positive(model);
-    let unfit = checks::refused(p.count, b.lo, b.hi);
+    let unfit = checks::refused(p.count, b);
     let beyond = envelope::beyond_five(model);
     let within = envelope::within_envelope(b.lo, pressure);
     checks::first_row(unfit, beyond, within)?;

@@ -73,9 +73,9 @@ file_rows bytes list fractions r e = rw e
 
 -- ---- what `prepare` has of the file that it read into two arrays
 module _ (bytes list : List ℕ) (fractions : List Float) where
-  pub prepared_answer : {t : Tables} (n : ℕ) → t ≡ tables_of bytes → answer_of bytes ≡ Ok n → checked_from t.doubles list fractions ≡ mixed_of bytes list fractions
-  unfolding mixed_of mixed_from
-  prepared_answer n e a = rw (e, a)
+  pub prepared_answer : {t : Tables} {a : Result ℕ Refusal} → t ≡ tables_of bytes → a ≡ answer_of bytes → mixed_from t.doubles a list fractions ≡ mixed_of bytes list fractions
+  unfolding mixed_of
+  prepared_answer e h = rw (e, h)
 
   if_ok : (P : Mixed → Type 0) (x : Result Mixed Refusal) → ((m : Mixed) → x ≡ Ok m → P m) → IfOk x P
   if_ok P (Ok m) f = f m refl

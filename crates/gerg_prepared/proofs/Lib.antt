@@ -1,4 +1,3 @@
 -- Laws of a prepared model.
 pub mod Laws
 pub mod Numbers
-pub mod Called

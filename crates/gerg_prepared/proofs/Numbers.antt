@@ -1,13 +1,16 @@
 -- Rows 1 to 5 refuse by a number at most 5 and a value below 2^32, and by 3 and 4 no sound mixture. Assumes nothing.
-use mathlib.Core.Path.{◌≡◌}
+use mathlib.Core.Path.{◌≡◌, subst}
 use mathlib.Core.Bool.{Bool, true, false}
 use mathlib.Core.List.{List}
 use Prim.Native.Nat.{ℕ, ◌^◌, ◌≤◌, ◌<◌}
+use native.Mathlib.Nat.{le_trans}
 use native.Mathlib.Omega.{arith}
+use lib.Dec.{lit≤}
 use lib.Ieee.{Float}
 use Rattle.std.specs.Prelude.{Result, Ok, Err}
 use Rattle.numerics.specs.Double.{pick}
 use Rattle.gerg_refusals.specs.Answer.{number_of, value_of, passed}
+use Rattle.gerg_refusals.specs.Refusal as of_refusal
 use Rattle.gerg_refusals.specs.declared.Refusal.{Refusal}
 use Rattle.gerg_refusals.specs.declared.Refusal.TheVariants as refusal
 use Rattle.gerg_refusals.proofs.Then.{then_holds}
@@ -30,14 +33,18 @@ sound_limited : (b : Bool) (m : Mixed) → Limited (pick b (Ok m) (Err refusal.R
 sound_limited true m = record { number = omega arith; value = omega arith }
 sound_limited false m = record { number = omega arith; value = omega arith }
 
--- a refusal within the limits of an answer that it is of
-of_file : (x : Result ℕ Refusal) (r : Refusal) → x ≡ Err r → File.number_of x ≤ 2 → File.value_of x ≤ 28377 → Limited (Err r)
-of_file (Ok n) r e a b = cc
-of_file (Err q) r e a b = let same : q ≡ r = cc in rw (← same) (record { number = omega arith; value = b })
+-- a file's refusal is of row 1 or 2
+file_number : (bytes : List ℕ) (r : Refusal) → answer_of bytes ≡ Err r → of_refusal.number_of r ≤ 2
+file_number bytes r e = subst (λ x. File.number_of x ≤ 2) e (file_at_most_2 bytes)
 
-of_check : (x : Result (Unit {0}) Refusal) (r : Refusal) → x ≡ Err r → number_of x ≤ 4 → value_of x ≤ 21 → Limited (Err r)
-of_check (Ok u) r e a b = cc
-of_check (Err q) r e a b = let same : q ≡ r = cc in rw (← same) (record { number = omega arith; value = omega arith })
+file_limited : (bytes : List ℕ) (r : Refusal) → answer_of bytes ≡ Err r → Limited (Err r)
+file_limited bytes r e = record { number = le_trans (file_number bytes r e) (lit≤ tt); value = subst (λ x. File.value_of x ≤ 28377) e (file_value_at_most bytes) }
+
+check_limited : (list : List ℕ) (fractions : List Float) (r : Refusal) → check_of list fractions ≡ Err r → Limited (Err r)
+check_limited list fractions r e = record {
+  number = le_trans (subst (λ x. number_of x ≤ 4) e (mixture_at_most_4 list fractions)) (lit≤ tt);
+  value = le_trans (subst (λ x. value_of x ≤ 21) e (mixture_value_at_most_21 list fractions)) (lit≤ tt);
+}
 
 mixed_limited : (bytes list : List ℕ) (fractions : List Float) → Limited (mixed_of bytes list fractions)
 unfolding mixed_of mixed_from checked_from reduced_mixture sound_mixture
@@ -45,9 +52,9 @@ mixed_limited bytes list fractions =
     let doubles = (tables_of bytes).doubles in
     let model = model_of doubles list fractions in
     let gradients = gradients_of doubles model.fractions in
-    then_holds Limited (answer_of bytes) (λ length. checked_from doubles list fractions) (λ r e. of_file (answer_of bytes) r e (file_at_most_2 bytes) (file_value_at_most bytes))
+    then_holds Limited (answer_of bytes) (λ length. checked_from doubles list fractions) (file_limited bytes)
     (λ length e.
-    then_holds Limited (check_of list fractions) (λ u. reduced_mixture doubles list fractions) (λ r q. of_check (check_of list fractions) r q (mixture_at_most_4 list fractions) (mixture_value_at_most_21 list fractions))
+    then_holds Limited (check_of list fractions) (λ u. reduced_mixture doubles list fractions) (check_limited list fractions)
     (λ u q. sound_limited (reducing_sound model gradients) (record { model = model; gradients = gradients })))
 
 pub rows_at_most_5 : (bytes list : List ℕ) (fractions : List Float) → number_of (mixed_of bytes list fractions) ≤ 5
@@ -73,10 +80,6 @@ either_neither : (b : Bool) (x y : Result Mixed Refusal) → NeitherRow3Nor4 (nu
 either_neither true x y h g = h
 either_neither false x y h g = g
 
-file_neither : (x : Result ℕ Refusal) (r : Refusal) → x ≡ Err r → File.number_of x ≤ 2 → NeitherRow3Nor4 (number_of {A = Mixed} (Err r))
-file_neither (Ok n) r e a = cc
-file_neither (Err q) r e a = let same : q ≡ r = cc in rw (← same) (before_row_3 _ (omega arith))
-
 -- components and fractions that rows 3 and 4 pass are refused by rows 1, 2 and 5 alone, whatever the file
 module _ (bytes list : List ℕ) (fractions : List Float) (sound : check_of list fractions ≡ passed) where
   checked_neither : NeitherRow3Nor4 (number_of (checked_from (tables_of bytes).doubles list fractions))
@@ -87,7 +90,7 @@ module _ (bytes list : List ℕ) (fractions : List Float) (sound : check_of list
   unfolding mixed_of mixed_from
   sound_rows =
       then_holds (λ (x : Result Mixed Refusal). NeitherRow3Nor4 (number_of x)) (answer_of bytes) (λ length. checked_from (tables_of bytes).doubles list fractions)
-      (λ r e. file_neither (answer_of bytes) r e (file_at_most_2 bytes)) (λ length e. checked_neither)
+      (λ r e. let most = file_number bytes r e in before_row_3 _ (omega arith)) (λ length e. checked_neither)
 
 -- a row from 6 on is none of rows 1 to 5
 pub late : {A : Type 0} (bytes list : List ℕ) (fractions : List Float) (n : ℕ) → 5 < n → number_of (mixed_of bytes list fractions) ≡ n → A

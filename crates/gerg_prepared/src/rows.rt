@@ -11,11 +11,17 @@ use gerg_model::mixture;
 use gerg_reducing::gradients;
 use gerg_refusals::Refusal;
 
-// Rows 3 to 5; `doubles` are the tables' of an accepted file.
-#[tactic(auto, unfolding(crate::specs::Mixed::checked_from, crate::specs::Mixed::reduced_mixture, crate::specs::Mixed::sound_mixture))]
-pub fn mixed(doubles: &[f64; 4086], list: &[u8], fractions: &[f64]) -> Result<Mixed, Refusal>
-    ensures { result ≡ is.checked_from doubles.now list.now fractions.now }
+// Rows 1 to 5; `answer` is the file's, `doubles` its tables'.
+#[tactic(auto, unfolding(crate::specs::Mixed::mixed_from, crate::specs::Mixed::checked_from, crate::specs::Mixed::reduced_mixture, crate::specs::Mixed::sound_mixture))]
+pub fn mixed(
+    doubles: &[f64; 4086],
+    answer: Result<usize, Refusal>,
+    list: &[u8],
+    fractions: &[f64],
+) -> Result<Mixed, Refusal>
+    ensures { result ≡ is.mixed_from doubles.now answer list.now fractions.now }
 {
+    answer?;
     mixture::check_mixture(list, fractions)?;
     let model = mixture::model(doubles, list, fractions);
     let gradients = gradients::gradients(doubles, &model.fractions);
@@ -25,7 +31,7 @@ pub fn mixed(doubles: &[f64; 4086], list: &[u8], fractions: &[f64]) -> Result<Mi
     Err(Refusal::Reducing)
 }
 
-// Rows 1 to 5. The file's tables go into lent arrays of zeros.
+// Rows 1 to 5. The file's tables go into lent arrays of zeros, which each caller holds: a function cannot hand out what it lends, and one that took the rest as a closure would serve three of the six calls, as a caller learns nothing of lent memory that a closure wrote and no type parameter stands for a slice.
 pub fn prepare(
     file: &[u8],
     list: &[u8],
@@ -39,6 +45,6 @@ pub fn prepare(
     ensures shaped { IfOk result (λ m. Shaped (tables doubles.new integers.new)) }
     ensures listed { IfOk result (λ m. Listed m.model) }
 {
-    gerg_coefficients::read_tables_into(file, doubles, integers)?;
-    mixed(doubles, list, fractions)
+    let answer = gerg_coefficients::read_tables_into(file, doubles, integers);
+    mixed(doubles, answer, list, fractions)
 }

@@ -1,9 +1,10 @@
 // The gradients of the reducing values by mole fraction: what each pair adds to its two elements.
+// A place stays a usize with its bound in the clause: loops and readers have it so, and a type of places would be made and taken apart at each call.
 ghost use Rattle.std.specs.Prelude.{◌≡◌, ◌<◌};
 ghost use Rattle.gerg_reducing.specs.Reducing.{row_of, bumped, first_part, second_part, gradient_pair, gradient_row, gradient_of, gradients_of};
 
 use crate::Reduced;
-use crate::reducing::{b_of_pair, weight_of_pair};
+use crate::reducing::b_and_weight;
 
 // v added to element i.
 #[tactic(auto, unfolding(crate::specs::Reducing::bumped))]
@@ -50,8 +51,7 @@ fn gradient_pair(
     if xi + xj == 0.0 {
         return;
     }
-    let b = b_of_pair(doubles, reduced, i, j);
-    let w = weight_of_pair(doubles, reduced, i, j);
+    let (b, w) = b_and_weight(doubles, reduced, i, j);
     if xj == 0.0 {
         bump(gradient, j, w * xi / b);
         return;
@@ -64,6 +64,7 @@ fn gradient_pair(
     bump(gradient, j, second_part(w, b, xi, xj));
 }
 
+#[tactic(auto, using(numerics::specs::Iterate::range_begins, numerics::specs::Iterate::range_turn, numerics::specs::Iterate::range_done), unfolding(crate::specs::Reducing::gradient_row))]
 fn gradient_row(
     doubles: &[f64; 4086],
     x: &[f64; 21],
@@ -79,6 +80,7 @@ fn gradient_row(
     }
 }
 
+#[tactic(auto, using(numerics::specs::Iterate::iter_begins, numerics::specs::Iterate::iter_turn, numerics::specs::Iterate::iter_done), unfolding(crate::specs::Reducing::gradient_of))]
 fn gradient(doubles: &[f64; 4086], x: &[f64; 21], reduced: Reduced) -> [f64; 21]
     ensures { result ≡ gradient_of doubles.now x.now (row_of reduced) }
 {

@@ -12,12 +12,12 @@ pub enum Reduced {
     Temperature,
 }
 
-// A mixture of fixed composition, between the layers. Its reducing gradients, two rows of 21 numbers, are passed beside it.
+// A mixture of fixed composition, between the layers. Its reducing gradients, two rows of 21 numbers as document 01 has them, volume first, are passed beside it.
 #[derive(Clone, Copy)]
 pub struct GergModel {
     // mole fraction of each of the 21 components
     pub fractions: [f64; 21],
-    // the listed components in list order, each less 1; the first `components` places count, in fixed memory
+    // the listed components in list order, each less 1; the first `components` places count: an ArrayVec is not Copy, and the model is
     pub component_indices: [u8; 21],
     pub components: usize,
     // K

@@ -16,9 +16,9 @@ abbrev pub passed : {E : Type 0} → Result (Unit {0}) E
 passed = Ok tt
 
 -- what follows where nothing is refused
-abbrev pub and_then : {A B : Type 0} → Result A Refusal → (A → Result B Refusal) → Result B Refusal
+abbrev pub and_then : {A B E : Type 0} → Result A E → (A → Result B E) → Result B E
 and_then (Ok a) later = later a
-and_then (Err r) later = Err r
+and_then (Err e) later = Err e
 
 -- "Every row leaves all lent memory as it was": memory as lent, and as an accepted call leaves it
 abbrev pub memory_of : {A B : Type 0} → Result A Refusal → B → (A → B) → B

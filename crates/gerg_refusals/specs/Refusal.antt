@@ -17,18 +17,22 @@ cause_of fault.NotPositive = 7
 cause_of fault.Departure = 8
 
 abbrev pub number_of : Refusal → ℕ
+-- "file: record cut, missing, out of turn, with a count over its limit, wrong revision, bytes over"; "table", of which `cause_of` tells more; "component list empty, over 21, number unknown or repeated"; "fractions: length differs .., then nonfinite or negative .., then bad sum"
 number_of (refusal.File offset) = 1
 number_of (refusal.Tables f) = 2
 number_of (refusal.Components place) = 3
 number_of (refusal.Fractions place) = 4
+-- "reducing values not finite and positive, or gradient nonfinite"; "density nonfinite"; "density ≤ 0"; "T not in 200..450 or density not in 1e-3..30000, ends allowed"
 number_of refusal.Reducing = 5
 number_of refusal.DensityNotFinite = 6
 number_of refusal.DensityNotPositive = 7
 number_of refusal.OutsideRange = 8
+-- "a derivative nonfinite"; "stiffness or cv ≤ 0"; "pressure not in (0, 35e6]"; "cp, internal or Helmholtz energy, speed of sound, stiffness or dp/dT of a state, a fugacity coefficient, or a density trial's pressure or stiffness nonfinite"
 number_of refusal.Derivative = 9
 number_of refusal.Unstable = 10
 number_of refusal.Pressure = 11
 number_of refusal.NotFinite = 12
+-- "bracket, limit or tolerance (as the Rust's first test)"; "target nonfinite, ≤ 0 or > 35e6"; "trial stiffness ≤ 0"; "target not bracketed"; "final pressure check"; "collapsed"; "limit reached"
 number_of refusal.Options = 13
 number_of refusal.Target = 14
 number_of refusal.TrialUnstable = 15
@@ -36,13 +40,16 @@ number_of refusal.NotBracketed = 16
 number_of refusal.PressureCheck = 17
 number_of (refusal.Collapsed trials) = 18
 number_of (refusal.LimitReached trials) = 19
+-- "listed component not 1 to 5"; "T not in 230..350 or p not in 1e5..1e7"; "root not converged"; "no exterior root"
 number_of refusal.BeyondFive = 20
 number_of refusal.OutsideEnvelope = 21
 number_of refusal.RootNotConverged = 22
 number_of refusal.NoRoot = 23
+-- "lent answer too short"; "saturation: not one positive fraction, or ends nonfinite or not rising"; "saturation: limit made, or the middle falls on an end, none accepted"
 number_of (refusal.TooShort needed) = 24
 number_of refusal.NotPure = 25
 number_of (refusal.SaturationNotConverged trials) = 26
+-- of the requests: "a zero seed"; "a wrong kind, a cut record or a digit above 9"; "parts not totalling 1,000,000"
 number_of refusal.ZeroSeed = 27
 number_of (refusal.Record offset) = 28
 number_of refusal.Total = 29

@@ -68,7 +68,7 @@ pub enum Refusal {
 }
 
 impl Fault {
-    // 1 to 8.
+    // 1 to 8: the variants stand in the order of their causes, so that the number of each is not written a second time beside it, as a match would.
     pub fn cause(self) -> u8
         ensures { result ≡ cause_of self }
     {

@@ -4,10 +4,11 @@ use Rattle.std.specs.Float.{nan}
 use Rattle.std.specs.Float.Ieee.{lt, le}
 use Rattle.numerics.specs.Double.{◌⊗◌, bits, pick}
 use Rattle.numerics.specs.Iterate.{iter}
+use Rattle.gerg_refusals.specs.Answer.{and_then}
 use Rattle.gerg_refusals.specs.declared.Refusal.{Refusal}
 use Rattle.gerg_refusals.specs.declared.Refusal.TheVariants as refusal
 use Rattle.gerg_reducing.specs.declared.GergModel.{GergModel}
-use Rattle.gerg_scan_steps.specs.Answers.{and_then}
+use Rattle.gerg_scan_steps.specs.Answers.{mapped}
 use Rattle.gerg_scan_steps.specs.Halving.{larger_of}
 use Rattle.gerg_scan_steps.specs.declared.Point.{Point}
 use Rattle.gerg_scan_steps.specs.declared.Scan.{Scan}
@@ -36,8 +37,7 @@ unfoldable pub limit_of : Float → Float
 limit_of target = larger_of (bits 0x3d95_fd7f_e179_6495 ⊗ target) (bits 0x3e8a_d7f2_9abc_af48)
 
 unfoldable pub joined_by : Outcome → List Root → Kept
-joined_by (Ok root) k = Ok (k ++ (root ∷ []))
-joined_by (Err r) k = Err r
+joined_by outcome k = mapped (λ root. k ++ (root ∷ [])) outcome
 
 -- a root between the points of negative stiffness is dropped; row 22; then what it gives. `root` gives it at each density
 unfoldable pub keep_step : (Float → Outcome) → Float → Float → Float → Point → List Root → Kept
@@ -55,11 +55,11 @@ no_root = record { head = []; coefficients = [] }
 -- "Dropping interior roots before the whole grid is seen" would be wrong: the whole scan is given
 unfoldable pub kept_of : (Float → Outcome) → Float → Scan → Kept
 kept_of root target s =
-    iter (λ i. and_then (keep_step root target s.first_negative s.last_negative (get_or s.roots.items i no_point))) (length s.roots.items) (Ok [])
+    iter (λ i k. and_then k (keep_step root target s.first_negative s.last_negative (get_or s.roots.items i no_point))) (length s.roots.items) (Ok [])
 
 -- a refusal of the scan comes before any root is looked at
 unfoldable pub found_of : (Float → Outcome) → Float → Result Scan Refusal → Kept
-found_of root target s = and_then (kept_of root target) s
+found_of root target s = and_then s (kept_of root target)
 
 -- doubles needed
 abbrev pub needed : GergModel → List Root → ℕ
@@ -67,8 +67,7 @@ needed m k = length k * (4 + m.components)
 
 -- "no exterior root": 23; "lent answer too short": 24, last. `lent` is the length of the lent answer
 unfoldable pub answer_of : GergModel → ℕ → Kept → Result ℕ Refusal
-answer_of m lent (Ok k) = pick (eqb (length k) 0) (Err refusal.NoRoot) (pick (ltb lent (needed m k)) (Err (refusal.TooShort (needed m k))) (Ok (length k)))
-answer_of m lent (Err r) = Err r
+answer_of m lent kept = and_then kept (λ k. pick (eqb (length k) 0) (Err refusal.NoRoot) (pick (ltb lent (needed m k)) (Err (refusal.TooShort (needed m k))) (Ok (length k))))
 
 -- number j of a root, and the root's m numbers from a place on
 unfoldable pub number_at : Root → ℕ → Float

@@ -17,7 +17,8 @@ pub fn limit(target: f64) -> f64
     halve::larger(5e-12 * target, 2e-7)
 }
 
-// The numbers of a root, from a place on.
+// The numbers of a root, from a place on. `components` stands beside it, since its 21 coefficients are fixed memory of which each root of a list uses as many as the model has.
+// Its bound is all that is asked of `Listed` here. Places are counted in all of `out`, as `roots_written` counts them: of chunks the proof would put each back.
 fn put_root(out: &mut [f64], root: &Root, components: usize, at: usize)
     requires { (components ≤ 21) × (at + (4 + components) ≤ length out.old) }
     ensures { out.new ≡ is.root_written root.now (4 + components) at out.old }

@@ -10,7 +10,7 @@ use arrayvec::ArrayVec;
 // A root that is kept.
 #[derive(Clone, Copy, Default)]
 pub struct Root {
-    // density, pressure, Z and Gibbs energy, in the order in which they are written
+    // density, pressure, Z and Gibbs energy in the order in which they are written: an array, since it is copied as it stands
     pub head: [f64; 4],
     // ln φ of the listed components in the first places
     pub coefficients: [f64; 21],

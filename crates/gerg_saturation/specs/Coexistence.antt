@@ -1,8 +1,9 @@
 -- What one or two exterior roots tell of saturation, and when a saturation is accepted.
-use Rattle.std.specs.Prelude.{List, ℕ, Float, Ok, Err, get_or}
+use Rattle.std.specs.Prelude.{List, ℕ, Float, get_or}
 use Rattle.std.specs.Float.{nan}
 use Rattle.std.specs.Float.Ieee.{lt, le, eq, neg}
 use Rattle.numerics.specs.Double.{◌⊖◌, ◌⊘◌, bits, +0, one, pick}
+use Rattle.gerg_scan_steps.specs.Answers.{mapped}
 use Rattle.gerg_root_list.specs.declared.Root.{Root}
 use Rattle.gerg_saturation.specs.Answer.{Sample, Tried}
 use Rattle.gerg_saturation.specs.declared.Exterior.{Exterior}
@@ -50,5 +51,4 @@ verdict_of (Coexisting difference s) = pick (le s.fugacity_residual most_residua
 
 -- what a temperature says by its sample
 unfoldable pub tried_of : Sample → Tried
-tried_of (Ok roots) = Ok (verdict_of roots)
-tried_of (Err r) = Err r
+tried_of sample = mapped verdict_of sample

@@ -1,29 +1,17 @@
 -- The halvings of an interval of temperatures, their trials, and the answer. `v` gives the verdict at each temperature.
 use Rattle.std.specs.Prelude.{Bool, false, not, ◌&&◌, ◌||◌, List, [], ◌∷◌, ℕ, zero, suc, Float, Some, None, Ok, Err, length}
-use Rattle.std.specs.Float.Ieee.{lt, eq}
+use Rattle.std.specs.Float.Ieee.{lt}
 use Rattle.numerics.specs.Double.{+0, pick}
-use Rattle.numerics.specs.Middle.{middle}
+use Rattle.interval.specs.Interval.{middle_of, narrowed_of, on_end}
 use Rattle.gerg_refusals.specs.declared.Refusal.TheVariants as refusal
 use Rattle.gerg_saturation.specs.Answer.{Tried, Answer}
 use Rattle.gerg_saturation.specs.declared.PureSaturation.{PureSaturation}
-use Rattle.gerg_saturation.specs.declared.Interval.{Interval}
+use Rattle.interval.specs.declared.Interval.{Interval}
 use Rattle.gerg_saturation.specs.declared.Verdict.TheVariants.{Accepted, Apart}
-
--- "the middle"
-abbrev pub middle_of : Interval → Float
-middle_of b = middle b.lo b.hi
 
 -- "strictly between the two ends that stand before it"
 unfoldable pub between_of : Interval → Float → Bool
 between_of b x = lt b.lo x && lt x b.hi
-
--- "the middle falls on an end"
-unfoldable pub on_end : Interval → Float → Bool
-on_end b x = eq x b.lo || eq x b.hi
-
--- the middle takes the place of the low end where the difference there is below zero, else of the high end
-unfoldable pub narrowed_of : Interval → Float → Float → Interval
-narrowed_of b x difference = pick (lt difference +0) (record { lo = x; hi = b.hi }) (record { lo = b.lo; hi = x })
 
 -- what follows a middle that is neither accepted nor refused and no end; else what stands where the halvings end
 unfoldable pub onward : {A : Type 0} → Interval → Float → Tried → (Interval → A) → A → A

@@ -12,6 +12,7 @@ use crate::Positive;
 use gerg_reducing::GergModel;
 use gerg_refusals::Refusal;
 use gerg_tables::numbers::is_finite;
+use interval::Interval;
 
 // The fraction at place k joins the positive ones if it is one.
 fn joined(p: Positive, k: usize, fraction: f64) -> Positive
@@ -34,19 +35,19 @@ pub fn positive(model: &GergModel) -> Positive
     ensures { (result.count ≡ positive_fractions model.now) × (result.place ≡ positive_place model.now) × (result.place < 21) }
 {
     let mut p = Positive { count: 0, place: 0 };
-    for k in 0..model.components {
-        let index = usize::from(model.component_indices[k]);
-        p = joined(p, k, model.fractions[index]);
+    let listed = &model.component_indices[..model.components];
+    for (k, index) in listed.iter().enumerate() {
+        p = joined(p, k, model.fractions[usize::from(*index)]);
     }
     p
 }
 
 // Row 25, of the number of positive fractions and the ends.
 #[tactic(auto, unfolding(crate::specs::Checks::refused_by))]
-pub fn refused(n: usize, lo: f64, hi: f64) -> bool
-    ensures { result ≡ refused_by n lo hi }
+pub fn refused(n: usize, b: Interval) -> bool
+    ensures { result ≡ refused_by n b.lo b.hi }
 {
-    !(n == 1) | !is_finite(lo) | !is_finite(hi) | !(lo < hi)
+    !(n == 1) | !is_finite(b.lo) | !is_finite(b.hi) | !(b.lo < b.hi)
 }
 
 // The rows that refuse before a root is sought: 25, 20, then 21 at the low end.

@@ -1,13 +1,13 @@
 // What one or two exterior roots tell of saturation.
-#![tactic(auto, unfolding(crate::specs::Coexistence::magnitude_of, crate::specs::Coexistence::sign_of, crate::specs::Coexistence::saturation_of, crate::specs::Coexistence::coexisting_of, crate::specs::Coexistence::verdict_of))]
+#![tactic(auto, unfolding(crate::specs::Coexistence::magnitude_of, crate::specs::Coexistence::sign_of, crate::specs::Coexistence::saturation_of, crate::specs::Coexistence::coexisting_of, crate::specs::Coexistence::verdict_of, crate::specs::Coexistence::tried_of))]
 
 ghost use Rattle.std.specs.Prelude.{◌≡◌, ◌<◌};
-ghost use Rattle.gerg_saturation.specs.Coexistence.{magnitude_of, sign_of, saturation_of, coexisting_of, verdict_of};
+ghost use Rattle.gerg_saturation.specs.Coexistence.{magnitude_of, sign_of, saturation_of, coexisting_of, verdict_of, tried_of};
 
-use crate::{Exterior, PureSaturation, Verdict};
+use crate::{Exterior, PureSaturation, Sample, Tried, Verdict};
 use gerg_root_list::Root;
 
-// The size of a number: +0 for either zero.
+// The size of a number, +0 for either zero: `halve::size` of gerg_scan_steps keeps a zero's sign, and std's `abs` speaks of the sign bit, from which the law to `magnitude_of` is longer than this.
 pub fn magnitude(x: f64) -> f64
     ensures { result ≡ magnitude_of x }
 {
@@ -20,7 +20,8 @@ pub fn magnitude(x: f64) -> f64
     x
 }
 
-// A single root denser than the reducing density is a liquid.
+// A single root denser than the reducing density is a liquid. A number and no enum: it takes the place of a difference, of which the halvings ask
+// the sign alone.
 pub fn sign(reducing_density: f64, head: &[f64; 4]) -> f64
     ensures { result ≡ sign_of reducing_density head.now }
 {
@@ -69,6 +70,13 @@ pub fn coexisting(
     let v = vapor.coefficients[place];
     let s = saturation(temperature, pressure, &liquid.head, l, &vapor.head, v);
     Exterior::Coexisting(l - v, s)
+}
+
+// What a temperature says by its sample: a refusal is the sample's.
+pub fn tried(sample: Sample) -> Tried
+    ensures { result ≡ tried_of sample }
+{
+    Ok(sample?.verdict())
 }
 
 impl Exterior {

@@ -6,6 +6,7 @@ pub mod coexistence;
 pub mod halving;
 
 use gerg_refusals::Refusal;
+use interval::Interval;
 
 // The numbers of `PureSaturation` in saturation.rs.
 #[derive(Clone, Copy)]
@@ -21,7 +22,8 @@ pub struct PureSaturation {
     pub iterations: usize,
 }
 
-// The positive fractions of a list: how many, and the place of the last of them.
+// The positive fractions of a list: how many, and the place of the last of them. Not the `Option` of the only one's place: `checks::positive` promises the count for every list,
+// and a loop that finds whether there is one alone counts too.
 #[derive(Clone, Copy)]
 pub struct Positive {
     pub count: usize,
@@ -29,14 +31,15 @@ pub struct Positive {
 }
 
 // The exterior roots at a temperature: the sign of the branch of a single one; of more, the difference of the fugacity coefficients of
-// liquid and vapor, and the saturation that they would be.
+// liquid and vapor, and the saturation that they would be. An enum: a sign and a difference are different numbers, which one field beside an
+// `Option` would not tell apart.
 #[derive(Clone, Copy)]
 pub enum Exterior {
     Single(f64),
     Coexisting(f64, PureSaturation),
 }
 
-// What exterior roots say: accepted, or apart by this difference.
+// What exterior roots say: accepted, or apart by this difference. Neither is a failure, so it is no `Result`: `Tried` is one around it.
 #[derive(Clone, Copy)]
 pub enum Verdict {
     Accepted(PureSaturation),
@@ -49,14 +52,7 @@ pub type Sample = Result<Exterior, Refusal>;
 // What a temperature that is tried says.
 pub type Tried = Result<Verdict, Refusal>;
 
-// The ends of an interval of temperatures, in K.
-#[derive(Clone, Copy)]
-pub struct Interval {
-    pub lo: f64,
-    pub hi: f64,
-}
-
-// What the caller chooses: the interval, and the most halvings of it.
+// What the caller chooses: the interval (temperatures in K), and the most halvings of it. A type of its own: `gerg_search::Options` has a tolerance, which is fixed here.
 #[derive(Clone, Copy)]
 pub struct Options {
     pub interval: Interval,

@@ -9,20 +9,18 @@ ghost use Rattle.gerg_scan_steps.specs.Scan.{crossed_of, scan_step, scan_of};
 ghost use Rattle.gerg_scan.specs.Sought.{sample_for};
 
 use crate::Sought;
-use gerg::evaluate::GERG_GAS_CONSTANT;
-use gerg::helmholtz;
+use gerg::{evaluate, helmholtz};
 use gerg_refusals::Refusal;
 use gerg_scan_steps::{Halving, Point, Sample, Scan, halve};
+use interval::Interval;
 
 fn sample(sought: Sought, rho: f64) -> Sample
     ensures { result ≡ sample_for sought.entry rho }
 {
     let a = helmholtz::helmholtz_at(sought.isotherm, sought.range, rho)?;
-    let rt = GERG_GAS_CONSTANT * sought.isotherm.temperature;
-    Ok((
-        rho * rt * (1.0 + a.ar_d) - sought.pressure,
-        rt * (1.0 + 2.0 * a.ar_d + a.ar_dd),
-    ))
+    let t = sought.isotherm.temperature;
+    let p = evaluate::trial_pressure(a, t, rho);
+    Ok((p - sought.pressure, evaluate::stiffness(a, t)))
 }
 
 // A crossing between two grid points, halved at most 100 times.
@@ -30,18 +28,18 @@ fn crossing(sought: Sought, lo: f64, hi: f64) -> Result<Halving, Refusal>
     ensures { result ≡ crossing_of (sample_for sought.entry) (tolerance_of sought.entry.pressure) lo hi }
 {
     let tolerance = halve::tolerance(sought.pressure);
-    let mut h = halve::unhalved_between(lo, hi);
+    let mut h = halve::unhalved_between(Interval { lo, hi });
     for _ in 0..100usize {
         if h.stopped {
             return Ok(h);
         }
-        let rho = halve::middle(h);
+        let rho = h.ends.middle();
         h = halve::tried(tolerance, h, rho, sample(sought, rho))?;
     }
     Ok(h)
 }
 
-// A crossing from the previous grid point to the current one joins the roots.
+// A crossing from the previous grid point to the current one joins the roots. Room is asked for, here and below: it follows from the turns made, which the loop knows and a scan does not.
 fn cross(scan: &mut Scan, sought: Sought, current: Point) -> Result<(), Refusal>
     requires { array_vec_len scan.old.roots < 386 }
     ensures { leaves result scan.new ≡ crossed_of (sample_for sought.entry) sought.entry.pressure current.density current.residual scan.old }

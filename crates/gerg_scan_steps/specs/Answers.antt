@@ -1,10 +1,5 @@
--- Steps one after the other, of which a refusal ends the rest.
+-- What is made of what a step accepts; a refusal stays.
 use Rattle.std.specs.Prelude.{Result, Ok, Err}
-
--- a step from what is accepted; a refusal stays
-abbrev pub and_then : {A B E : Type 0} → (A → Result B E) → Result A E → Result B E
-and_then step (Ok a) = step a
-and_then step (Err r) = Err r
 
 -- a change of what is accepted
 abbrev pub mapped : {A B E : Type 0} → (A → B) → Result A E → Result B E

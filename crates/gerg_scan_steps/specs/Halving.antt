@@ -1,11 +1,11 @@
 -- A crossing of the target between two densities, halved. `v` gives the sample at each density.
 use Rattle.std.specs.Prelude.{false, ◌||◌, Float, Result, Ok, Err}
-use Rattle.std.specs.Float.Ieee.{lt, le, eq, neg}
+use Rattle.std.specs.Float.Ieee.{lt, le, neg}
 use Rattle.numerics.specs.Double.{◌⊗◌, ◌⊘◌, bits, +0, one, pick}
-use Rattle.numerics.specs.Middle.{middle}
+use Rattle.interval.specs.Interval as interval
 use Rattle.numerics.specs.Iterate.{iter}
+use Rattle.gerg_refusals.specs.Answer.{and_then}
 use Rattle.gerg_refusals.specs.declared.Refusal.{Refusal}
-use Rattle.gerg_scan_steps.specs.Answers.{and_then}
 use Rattle.gerg_scan_steps.specs.Sample.{Sample}
 use Rattle.gerg_scan_steps.specs.declared.Halving.{Halving}
 
@@ -24,17 +24,12 @@ larger_of a b = pick (lt b a) a b
 unfoldable pub tolerance_of : Float → Float
 tolerance_of target = larger_of (bits 0x3d61_9799_812d_ea11 ⊗ target) (bits 0x3e8a_d7f2_9abc_af48)
 
-unfoldable pub middle_of : Halving → Float
-middle_of h = middle h.lo h.hi
-
 -- after the residual f at rho: the best point so far; whether it ends; rho takes the place of the end on its side
 unfoldable pub narrowed_of : Float → Halving → Float → Float → Halving
 narrowed_of tolerance h rho f = record {
-  lo = pick (lt f +0) rho h.lo;
-  hi = pick (lt f +0) h.hi rho;
-  best_residual = pick (lt (size_of f) h.best_residual) (size_of f) h.best_residual;
-  best_density = pick (lt (size_of f) h.best_residual) rho h.best_density;
-  stopped = le (size_of f) tolerance || eq rho h.lo || eq rho h.hi;
+  ends = interval.narrowed_of h.ends rho f;
+  best = pick (lt (size_of f) h.best.residual) (record { density = rho; residual = size_of f }) h.best;
+  stopped = le (size_of f) tolerance || interval.on_end h.ends rho;
 }
 
 -- a refusal of the equation ends it too
@@ -43,12 +38,12 @@ tried_of tolerance h rho (Ok (f, stiffness)) = Ok (narrowed_of tolerance h rho f
 tried_of tolerance h rho (Err r) = Err r
 
 unfoldable pub halved_of : (Float → Sample) → Float → Halving → Result Halving Refusal
-halved_of v tolerance h = pick h.stopped (Ok h) (tried_of tolerance h (middle_of h) (v (middle_of h)))
+halved_of v tolerance h = pick h.stopped (Ok h) (tried_of tolerance h (interval.middle_of h.ends) (v (interval.middle_of h.ends)))
 
 -- before the first halving the best point is the lower end, with an infinite residual
 unfoldable pub unhalved : Float → Float → Halving
-unhalved lo hi = record { lo = lo; hi = hi; best_residual = infinity; best_density = lo; stopped = false }
+unhalved lo hi = record { ends = record { lo = lo; hi = hi }; best = record { density = lo; residual = infinity }; stopped = false }
 
 -- at most 100 halvings
 unfoldable pub crossing_of : (Float → Sample) → Float → Float → Float → Result Halving Refusal
-crossing_of v tolerance lo hi = iter (λ k. and_then (halved_of v tolerance)) 100 (Ok (unhalved lo hi))
+crossing_of v tolerance lo hi = iter (λ k h. and_then h (halved_of v tolerance)) 100 (Ok (unhalved lo hi))

@@ -1,11 +1,12 @@
 -- The scan of an isotherm over the grid. `v` gives the sample at each density.
-use Rattle.std.specs.Prelude.{Bool, ◌&&◌, ◌||◌, List, [], ◌∷◌, ◌++◌, ◌-◌, eqb, Float, length, get_or, map, Result, Ok, Err}
+use Rattle.std.specs.Prelude.{Bool, ◌&&◌, ◌||◌, List, [], ◌∷◌, ◌++◌, ◌-◌, eqb, Float, length, get_or, map, Result, Ok}
 use Rattle.std.specs.Float.{nan}
 use Rattle.std.specs.Float.Ieee.{lt, le, neg}
 use Rattle.numerics.specs.Double.{◌⊖◌, ◌⊗◌, bits, +0, pick}
 use Rattle.numerics.specs.Iterate.{range}
+use Rattle.gerg_refusals.specs.Answer.{and_then}
 use Rattle.gerg_refusals.specs.declared.Refusal.{Refusal}
-use Rattle.gerg_scan_steps.specs.Answers.{and_then, mapped}
+use Rattle.gerg_scan_steps.specs.Answers.{mapped}
 use Rattle.gerg_scan_steps.specs.Halving.{infinity, size_of, tolerance_of, crossing_of}
 use Rattle.gerg_scan_steps.specs.Sample.{Sample}
 use Rattle.gerg_scan_steps.specs.declared.Halving.{Halving}
@@ -14,8 +15,7 @@ use Rattle.gerg_scan_steps.specs.declared.Scan.{Scan}
 
 -- "Stiffness at the first grid point is not looked at"
 unfoldable pub begun_at : Float → Sample → Result Scan Refusal
-begun_at first (Ok (f, stiffness)) = Ok (record { previous = first; left = f; first_negative = infinity; last_negative = neg infinity; roots = record { items = [] } })
-begun_at first (Err r) = Err r
+begun_at first sample = mapped (λ p. record { previous = first; left = p.0; first_negative = infinity; last_negative = neg infinity; roots = record { items = [] } }) sample
 
 -- a point with stiffness ≤ 0: the least of them and the last
 unfoldable pub noted_of : Float → Float → Scan → Scan
@@ -40,7 +40,7 @@ grown root s = record { previous = s.previous; left = s.left; first_negative = s
 
 -- the best point of a crossing joins the roots
 unfoldable pub rooted_of : Halving → Scan → Scan
-rooted_of h s = pick (apart h.best_density (densities s.roots.items)) (grown (record { density = h.best_density; residual = h.best_residual }) s) s
+rooted_of h s = pick (apart h.best.density (densities s.roots.items)) (grown h.best s) s
 
 unfoldable pub moved_of : Float → Float → Scan → Scan
 moved_of current right s = record { previous = current; left = right; first_negative = s.first_negative; last_negative = s.last_negative; roots = s.roots }
@@ -51,8 +51,7 @@ crossed_of v target current right s =
     pick (le s.left +0 && le +0 right) (mapped (λ h. rooted_of h s) (crossing_of v (tolerance_of target) s.previous current)) (Ok s)
 
 unfoldable pub seen_of : (Float → Sample) → Float → Float → Scan → Sample → Result Scan Refusal
-seen_of v target current s (Ok (right, stiffness)) = mapped (moved_of current right) (crossed_of v target current right (noted_of current stiffness s))
-seen_of v target current s (Err r) = Err r
+seen_of v target current s sample = and_then sample (λ p. mapped (moved_of current p.0) (crossed_of v target current p.0 (noted_of current p.1 s)))
 
 -- one grid point more
 unfoldable pub scan_step : (Float → Sample) → Float → Float → Scan → Result Scan Refusal
@@ -60,4 +59,4 @@ scan_step v target current s = seen_of v target current s (v current)
 
 -- a refusal ends the scan
 unfoldable pub scan_of : (Float → Sample) → Float → List Float → Result Scan Refusal
-scan_of v target grid = range (λ i. and_then (scan_step v target (get_or grid i nan))) 1 (length grid) (begun_at (get_or grid 0 nan) (v (get_or grid 0 nan)))
+scan_of v target grid = range (λ i s. and_then s (scan_step v target (get_or grid i nan))) 1 (length grid) (begun_at (get_or grid 0 nan) (v (get_or grid 0 nan)))

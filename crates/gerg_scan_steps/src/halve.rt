@@ -1,11 +1,12 @@
 // One halving of a crossing, from the sample at its middle.
-#![tactic(auto, unfolding(crate::specs::Halving::size_of, crate::specs::Halving::larger_of, crate::specs::Halving::tolerance_of, crate::specs::Halving::unhalved, crate::specs::Halving::middle_of, crate::specs::Halving::narrowed_of, crate::specs::Halving::tried_of, numerics::specs::Middle::middle))]
+#![tactic(auto, unfolding(crate::specs::Halving::size_of, crate::specs::Halving::larger_of, crate::specs::Halving::tolerance_of, crate::specs::Halving::unhalved, crate::specs::Halving::narrowed_of, crate::specs::Halving::tried_of))]
 
 ghost use Rattle.std.specs.Prelude.{◌≡◌};
-ghost use Rattle.gerg_scan_steps.specs.Halving.{size_of, larger_of, tolerance_of, middle_of, narrowed_of, tried_of, unhalved};
+ghost use Rattle.gerg_scan_steps.specs.Halving.{size_of, larger_of, tolerance_of, narrowed_of, tried_of, unhalved};
 
-use crate::{Halving, Sample};
+use crate::{Halving, Point, Sample};
 use gerg_refusals::Refusal;
+use interval::Interval;
 
 // Not `abs`: a zero keeps its sign.
 pub fn size(x: f64) -> f64
@@ -17,6 +18,7 @@ pub fn size(x: f64) -> f64
     x
 }
 
+// b where a is a NaN. Not `f64::max`, which leaves open which of two equal numbers it gives.
 pub fn larger(a: f64, b: f64) -> f64
     ensures { result ≡ larger_of a b }
 {
@@ -33,22 +35,18 @@ pub fn tolerance(target: f64) -> f64
     larger(5e-13 * target, 2e-7)
 }
 
-pub fn unhalved_between(lo: f64, hi: f64) -> Halving
-    ensures { result ≡ unhalved lo hi }
+// There is no residual yet: each finite one is smaller.
+pub fn unhalved_between(ends: Interval) -> Halving
+    ensures { result ≡ unhalved ends.lo ends.hi }
 {
     Halving {
-        lo,
-        hi,
-        best_residual: 1.0 / 0.0,
-        best_density: lo,
+        ends,
+        best: Point {
+            density: ends.lo,
+            residual: 1.0 / 0.0,
+        },
         stopped: false,
     }
-}
-
-pub fn middle(h: Halving) -> f64
-    ensures { result ≡ middle_of h }
-{
-    h.lo + 0.5 * (h.hi - h.lo)
 }
 
 fn narrowed(tolerance: f64, h: Halving, rho: f64, f: f64) -> Halving
@@ -56,16 +54,14 @@ fn narrowed(tolerance: f64, h: Halving, rho: f64, f: f64) -> Halving
 {
     let s = size(f);
     let mut after = h;
-    if f < 0.0 {
-        after.lo = rho;
-    } else {
-        after.hi = rho;
+    after.ends = h.ends.narrowed(rho, f);
+    if s < h.best.residual {
+        after.best = Point {
+            density: rho,
+            residual: s,
+        };
     }
-    if s < h.best_residual {
-        after.best_residual = s;
-        after.best_density = rho;
-    }
-    after.stopped = (s <= tolerance) | (rho == h.lo) | (rho == h.hi);
+    after.stopped = (s <= tolerance) | h.ends.ends_at(rho);
     after
 }
 

@@ -6,18 +6,17 @@ pub mod scanning;
 
 use arrayvec::ArrayVec;
 use gerg_refusals::Refusal;
+use interval::Interval;
 
-// At a density: the pressure less the target, and the stiffness; or the refusal.
+// At a density: the pressure less the target, and the stiffness; or the refusal. Not `gerg_search::Sample`, whose two numbers are scaled.
 pub type Sample = Result<(f64, f64), Refusal>;
 
 // A crossing that is being halved: its ends, the point with the smallest residual so far, and whether it has ended. A flag: the other fields
 // say the same of a crossing that has ended, and an enum would hold them twice.
 #[derive(Clone, Copy)]
 pub struct Halving {
-    pub lo: f64,
-    pub hi: f64,
-    pub best_residual: f64,
-    pub best_density: f64,
+    pub ends: Interval,
+    pub best: Point,
     pub stopped: bool,
 }
 
@@ -29,7 +28,8 @@ pub struct Point {
 }
 
 // A scan: the last grid point and the residual there, the first and the last point with stiffness ≤ 0, and the roots found, at most one
-// for each grid point.
+// for each grid point. Where there is no such point the two are infinities, the first above the last: no density lies between them, and no
+// `Option` is opened for each root.
 #[derive(Drop)]
 pub struct Scan {
     pub previous: f64,

@@ -55,11 +55,8 @@ impl Scan {
         requires { array_vec_len self.old.roots < 386 }
         ensures { self.new ≡ rooted_of h self.old }
     {
-        if is_apart(&self.roots, h.best_density) {
-            self.roots.push(Point {
-                density: h.best_density,
-                residual: h.best_residual,
-            });
+        if is_apart(&self.roots, h.best.density) {
+            self.roots.push(h.best);
         }
     }
 

@@ -1,4 +1,4 @@
--- A number's size is within t where the number, or less it, is.
+-- A number's size is within t where the number, or less it, is; and beyond t where that is.
 use Rattle.std.proofs.Common.{◌≡◌, refl, sym, ap, ◌∙◌, arith, ℕ, zero, suc, ◌+◌, ◌*◌, ◌<◌, Bool, true, false, ◌||◌, ltb, Float, subst, mul-pos, zero-lt-suc, le-ltb, lt-ltb}
 use lib.Ieee.{nan, inf, fin, lt, le, eq, neg, below, level, up, down}
 use lib.IntN.{pos}
@@ -41,3 +41,35 @@ size_at_zero (fin true (suc m) e) t =
 
 pub size_within : (f t : Float) → le (float_with_sign false f) t ≡ pick (lt f +0) (le (neg f) t) (le f t)
 size_within f t = subst (λ z. le (float_with_sign false f) t ≡ pick (lt f z) (le (neg f) t) (le f t)) (sym zero_is) (size_at_zero f t)
+
+-- ---- beyond
+under_zeros : (t : Bool) (q a b : ℕ) → a ≡ 0 → b ≡ 0 → below t q false a ≡ below t q true b
+under_zeros t q a b x y = ap (λ (k : ℕ). below t q false k) x ∙ go t q ∙ ap (λ (k : ℕ). below t q true k) (sym y)
+  where
+    go : (t : Bool) (q : ℕ) → below t q false 0 ≡ below t q true 0
+    go true q = let e : q + 0 ≡ q = omega arith in ap (ltb 0) e
+    go false q = le-ltb q 0 (omega arith)
+
+beyond_at_zero : (f t : Float) → lt t (float_with_sign false f) ≡ pick (lt f (fin false 0 (pos 0))) (lt t (neg f)) (lt t f)
+unfolding float_with_sign lt neg
+beyond_at_zero nan t = refl
+beyond_at_zero (inf true) t = refl
+beyond_at_zero (inf false) t = refl
+beyond_at_zero (fin false m e) t =
+    let l : ltb (m * up e * 1) (0 * down e) ≡ false = le-ltb (m * up e * 1) (0 * down e) (omega arith) in
+    rw l refl
+beyond_at_zero (fin true zero e) t =
+    let l : ltb 0 (0 * up e * 1 + 0 * down e) ≡ false = le-ltb 0 (0 * up e * 1 + 0 * down e) (omega arith) in
+    rw l (under t)
+  where
+    under : (t : Float) → lt t (fin false 0 e) ≡ lt t (fin true 0 e)
+    under nan = refl
+    under (inf s) = refl
+    under (fin s n d) = under_zeros s (n * up d * down e) (0 * up e * down d) (0 * up e * down d) (omega arith) (omega arith)
+beyond_at_zero (fin true (suc m) e) t =
+    let p : 0 < suc m * up e = mul-pos (zero-lt-suc m) (up_pos e) in
+    let l : ltb 0 (suc m * up e * 1 + 0 * down e) ≡ true = lt-ltb 0 (suc m * up e * 1 + 0 * down e) (omega (arith, p)) in
+    rw l refl
+
+pub size_beyond : (f t : Float) → lt t (float_with_sign false f) ≡ pick (lt f +0) (lt t (neg f)) (lt t f)
+size_beyond f t = subst (λ z. lt t (float_with_sign false f) ≡ pick (lt f z) (lt t (neg f)) (lt t f)) (sym zero_is) (beyond_at_zero f t)

@@ -4,7 +4,7 @@ use Rattle.numerics.specs.Double.{pick}
 use Rattle.gerg_search.specs.Checks.{options_refused, target_refused}
 use Rattle.gerg_search.specs.Stop.{refusal_of}
 use Rattle.gerg_search.specs.Steps.{begin_of, step_of, moved_of}
-use Rattle.gerg_search.specs.declared.Bracket.{Bracket}
+use Rattle.interval.specs.declared.Interval.{Interval}
 use Rattle.gerg_search.specs.declared.Options.{Options}
 use Rattle.gerg_search.specs.Sample.{Sample}
 use Rattle.gerg_search.specs.declared.Stage.{Stage}
@@ -53,7 +53,7 @@ unfoldable pub answer_of : Options → (Float → Sample) → Step
 answer_of o v = step_of o (last_of o v) (v (last_of o v).density)
 
 -- "The reported count is the list's length"; the last bracket is the one before the trial that was accepted. (No search ends in a `Try`.)
-unfoldable pub reported : Step → ℕ → Bracket → Outcome
+unfoldable pub reported : Step → ℕ → Interval → Outcome
 reported (Try x) trials b = Err refusal.NotBracketed
 reported (Accepted x) trials b = Ok (record { density = x; trials = trials; bracket = b })
 reported (Refused c) trials b = Err (refusal_of c trials)

@@ -2,10 +2,10 @@
 use Rattle.std.specs.Prelude.{ℕ, zero, suc, T, Float}
 use Rattle.std.specs.Float.{binary64}
 use Rattle.std.specs.Float.Ieee.{fits, lt}
-use Rattle.gerg_search.specs.Point.{narrowed_of}
+use Rattle.interval.specs.Interval.{narrowed_of}
 use Rattle.gerg_search.specs.Steps.{begin_of, step_of, moved_of}
 use Rattle.gerg_search.specs.Run.{on_try}
-use Rattle.gerg_search.specs.declared.Bracket.{Bracket}
+use Rattle.interval.specs.declared.Interval.{Interval}
 use Rattle.gerg_search.specs.declared.Options.{Options}
 use Rattle.gerg_search.specs.Sample.{Sample}
 use Rattle.gerg_search.specs.declared.Search.{Search}
@@ -25,5 +25,5 @@ state_after o v zero = begin_of o
 state_after o v (suc n) = on_try (step_of o (state_after o v n) (v (state_after o v n).density)) (moved_of (state_after o v n) (v (state_after o v n).density)) (state_after o v n)
 
 -- the ends that the trial of s leaves, f being its residual: it "takes the place of the end on its side of the target"
-abbrev pub left_by : Search → Float → Bracket
+abbrev pub left_by : Search → Float → Interval
 left_by s f = narrowed_of s.bracket s.density f

@@ -2,8 +2,9 @@
 use Rattle.std.specs.Prelude.{ℕ, ◌+◌, ◌||◌, leb, Float, Ok, Err}
 use Rattle.std.specs.Float.Ieee.{lt}
 use Rattle.numerics.specs.Double.{+0, pick}
-use Rattle.gerg_search.specs.Point.{middle_of, next_of, narrowed_of, collapsed_at, within_of}
-use Rattle.gerg_search.specs.declared.Bracket.{Bracket}
+use Rattle.gerg_search.specs.Point.{next_of, collapsed_at, within_of}
+use Rattle.interval.specs.Interval.{middle_of, narrowed_of}
+use Rattle.interval.specs.declared.Interval.{Interval}
 use Rattle.gerg_search.specs.declared.Options.{Options}
 use Rattle.gerg_search.specs.Sample.{Sample}
 use Rattle.gerg_search.specs.declared.Stage.{Stage}
@@ -18,7 +19,7 @@ unfoldable pub begin_of : Options → Search
 begin_of o = record { stage = Low; density = o.bracket.lo; bracket = o.bracket; low_residual = +0; trials = 0 }
 
 -- "collapsed (row 18), before the limit is looked at" (row 19)
-unfoldable pub go_on_of : ℕ → ℕ → Bracket → Float → Step
+unfoldable pub go_on_of : ℕ → ℕ → Interval → Float → Step
 go_on_of limit trials b x = pick (collapsed_at b x) (Refused stop.Collapsed) (pick (leb limit trials) (Refused stop.LimitReached) (Try x))
 
 -- an interior trial: accepted within the tolerance, else on with the narrowed bracket and its next point

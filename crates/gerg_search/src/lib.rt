@@ -6,22 +6,17 @@ ghost use Rattle.std.specs.Prelude.{◌≡◌};
 ghost use Rattle.gerg_search.specs.Stop.{refusal_of};
 
 use gerg_refusals::Refusal;
+use interval::Interval;
 
 pub mod checks;
 pub mod point;
 pub mod steps;
 
-// The ends of an interval of densities, in mol/m³.
-#[derive(Clone, Copy)]
-pub struct Bracket {
-    pub lo: f64,
-    pub hi: f64,
-}
-
-// What the caller chooses: the bracket, the most interior trials, and the largest scaled pressure residual that is accepted.
+// What the caller chooses: the bracket (densities in mol/m³), the most interior trials, and the largest scaled pressure residual that
+// is accepted.
 #[derive(Clone, Copy)]
 pub struct Options {
-    pub bracket: Bracket,
+    pub bracket: Interval,
     pub limit: usize,
     pub tolerance: f64,
 }
@@ -29,7 +24,8 @@ pub struct Options {
 // The verdict of a trial at a density: the scaled residual and the scaled derivative, or the refusal that stopped it.
 pub type Sample = Result<(f64, f64), Refusal>;
 
-// Which density is being tried.
+// Which density is being tried. The state of a search is a value that is stored between its steps (document 01), which a closure for
+// the next step cannot be.
 #[derive(Clone, Copy)]
 pub enum Stage {
     Low,
@@ -43,12 +39,13 @@ pub enum Stage {
 pub struct Search {
     pub stage: Stage,
     pub density: f64,
-    pub bracket: Bracket,
+    pub bracket: Interval,
     pub low_residual: f64,
     pub trials: usize,
 }
 
-// Why a step refuses: its trial's own refusal, or a row of the search.
+// Why a step refuses: its trial's own refusal, or a row of the search. No `Refusal` yet: the count that two of them report is defined
+// as the length of the list of trials, which is complete where the search ends, and a step has no list.
 #[derive(Clone, Copy, Debug, PartialEq, Eq)]
 pub enum Stop {
     Trial(Refusal),
@@ -71,7 +68,8 @@ impl Stop {
     }
 }
 
-// What a step answers: try this density, accepted at this density, refused.
+// What a step answers: try this density, accepted at this density, refused. One enum whose first two cases carry a density, and no
+// `Result` or `Option`: document 01 sets this form ("Forms by place").
 #[derive(Clone, Copy)]
 pub enum Step {
     Try(f64),
@@ -84,7 +82,7 @@ pub enum Step {
 pub struct Found {
     pub density: f64,
     pub trials: usize,
-    pub bracket: Bracket,
+    pub bracket: Interval,
 }
 
 // How a search ends.

@@ -1,20 +1,13 @@
 // The next density of a bracket.
-#![tactic(auto, unfolding(crate::specs::Point::middle_of, crate::specs::Point::inside_of, crate::specs::Point::next_of, crate::specs::Point::narrowed_of, crate::specs::Point::collapsed_at, crate::specs::Point::within_of, numerics::specs::Middle::middle))]
+#![tactic(auto, unfolding(crate::specs::Point::inside_of, crate::specs::Point::next_of, crate::specs::Point::collapsed_at, crate::specs::Point::within_of))]
 
 ghost use Rattle.std.specs.Prelude.{◌≡◌};
-ghost use Rattle.gerg_search.specs.Point.{middle_of, inside_of, next_of, narrowed_of, collapsed_at, within_of};
+ghost use Rattle.gerg_search.specs.Point.{inside_of, next_of, collapsed_at, within_of};
 
-use crate::Bracket;
-
-// The middle of a bracket.
-pub fn middle(b: Bracket) -> f64
-    ensures { result ≡ middle_of b }
-{
-    b.lo + 0.5 * (b.hi - b.lo)
-}
+use interval::Interval;
 
 // Whether x lies strictly inside by a tenth of the width.
-pub fn inside(b: Bracket, x: f64) -> bool
+pub fn inside(b: Interval, x: f64) -> bool
     ensures { result ≡ inside_of b x }
 {
     let margin = 0.1 * (b.hi - b.lo);
@@ -22,28 +15,18 @@ pub fn inside(b: Bracket, x: f64) -> bool
 }
 
 // Newton's point from rho where it lies inside, else the middle.
-pub fn next(b: Bracket, rho: f64, f: f64, derivative: f64) -> f64
+pub fn next(b: Interval, rho: f64, f: f64, derivative: f64) -> f64
     ensures { result ≡ next_of b rho f derivative }
 {
     let newton = rho - f / derivative;
     if inside(b, newton) {
         return newton;
     }
-    middle(b)
-}
-
-// A trial that neither accepts nor refuses takes the place of the end on its side of the target.
-pub fn narrowed(b: Bracket, rho: f64, f: f64) -> Bracket
-    ensures { result ≡ narrowed_of b rho f }
-{
-    if f < 0.0 {
-        return Bracket { lo: rho, ..b };
-    }
-    Bracket { hi: rho, ..b }
+    b.middle()
 }
 
 // Whether the next point is not strictly between the ends.
-pub fn collapsed(b: Bracket, x: f64) -> bool
+pub fn collapsed(b: Interval, x: f64) -> bool
     ensures { result ≡ collapsed_at b x }
 {
     (x <= b.lo) | (x >= b.hi)

@@ -1,10 +1,12 @@
-// One step of a search, and the state after it.
+// One step of a search, and the state after it. Options and state stand apart, as in the definitions: the first is the caller's and stays, the second changes at each step.
+// `f` and `derivative` are the two numbers of a sample that is no refusal.
 #![tactic(auto, unfolding(crate::specs::Steps::begin_of, crate::specs::Steps::go_on_of, crate::specs::Steps::interior_of, crate::specs::Steps::ends_of, crate::specs::Steps::stage_of, crate::specs::Steps::step_of, crate::specs::Steps::moved_by, crate::specs::Steps::moved_of))]
 
 ghost use Rattle.std.specs.Prelude.{◌≡◌, ◌+◌, ◌^◌, ◌<◌};
 ghost use Rattle.gerg_search.specs.Steps.{begin_of, go_on_of, interior_of, ends_of, stage_of, step_of, moved_by, moved_of};
 
-use crate::{Bracket, Options, Sample, Search, Stage, Step, Stop, point};
+use crate::{Options, Sample, Search, Stage, Step, Stop, point};
+use interval::Interval;
 
 // A search before its first trial, which is at the low end.
 pub fn begin(o: Options) -> Search
@@ -21,7 +23,7 @@ pub fn begin(o: Options) -> Search
 }
 
 // Collapsed is looked at before the limit.
-fn go_on(limit: usize, trials: usize, b: Bracket, x: f64) -> Step
+fn go_on(limit: usize, trials: usize, b: Interval, x: f64) -> Step
     ensures { result ≡ go_on_of limit trials b x }
 {
     let collapsed = point::collapsed(b, x);
@@ -43,7 +45,7 @@ fn interior(o: Options, s: Search, f: f64, derivative: f64) -> Step
     if point::within(o.tolerance, f) {
         return Step::Accepted(rho);
     }
-    let b = point::narrowed(s.bracket, rho, f);
+    let b = s.bracket.narrowed(rho, f);
     let x = point::next(b, rho, f, derivative);
     go_on(o.limit, s.trials, b, x)
 }
@@ -62,7 +64,7 @@ fn ends(o: Options, flo: f64, fhi: f64) -> Step
     if (flo > 0.0) | (fhi < 0.0) {
         return Step::Refused(Stop::NotBracketed);
     }
-    Step::Try(point::middle(b))
+    Step::Try(b.middle())
 }
 
 fn staged(o: Options, s: Search, f: f64, derivative: f64) -> Step
@@ -104,7 +106,7 @@ fn moved_by(s: Search, f: f64, x: f64) -> Search
         },
         Stage::Interior => Search {
             density: x,
-            bracket: point::narrowed(s.bracket, s.density, f),
+            bracket: s.bracket.narrowed(s.density, f),
             trials: s.trials + 1,
             ..s
         },

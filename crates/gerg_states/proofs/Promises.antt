@@ -19,25 +19,20 @@ use Rattle.gerg_file.specs.Counts.{sum}
 use Rattle.gerg_coefficients.specs.Answer.{tables_of}
 use Rattle.gerg.specs.Helmholtz.{normal_range, within_range}
 use Rattle.std.specs.Prelude.{Result, Ok, Err}
-use Rattle.std.proofs.Common.{mod-eq_of_lt}
 use Rattle.gerg_refusals.specs.Answer.{number_of, value_of, passed, and_then, memory_of}
-use Rattle.gerg_refusals.specs.Code.{code_of}
 use Rattle.gerg_refusals.specs.declared.Refusal.{Refusal}
 use Rattle.gerg_refusals.specs.declared.Refusal.TheVariants as refusal
 use Rattle.gerg_refusals.proofs.Then.{then_err, memory_ok, memory_err, accepted}
 use Rattle.gerg_prepared.specs.Mixed.{mixed_of}
 use Rattle.gerg_prepared.specs.declared.Mixed.{Mixed}
 use Rattle.gerg_prepared.proofs.Numbers.{rows_at_most_5, rows_value}
+use Rattle.gerg_answers.specs.Answers.{accepted_code}
+use Rattle.gerg_answers.proofs.Laws.{accepted_code_lem}
 use Rattle.gerg_calls.specs.Calls.{properties_of}
 use Rattle.gerg_states.specs.declared.Run.{Run}
-use Rattle.gerg_states.specs.States.{seed_refusal, state_written, number_at, count_of, counts_of, run_of, run_refusal, counts_written, refusal_code}
+use Rattle.gerg_states.specs.States.{seed_refusal, state_written, number_at, count_of, counts_of, run_of, run_refusal, counts_written}
 use Rattle.gerg_states.proofs.Laws.Counts.{count_one, count_split, count_none, count_total, sum_same}
 use Rattle.gerg_states.proofs.Laws.Numbers.{number_at_most, state_within, number_late, prepared_number, after_seed, accepted_counts}
-
--- ---- a refusal's number and value
-coded : (x : Result (Unit {0}) Refusal) → value_of x < 2 ^ 32 → refusal_code x ≡ number_of x * 2 ^ 32 + value_of x
-unfolding refusal_code code_of
-coded x h = ap (λ (v : ℕ). number_of x * 2 ^ 32 + v) (mod-eq_of_lt h)
 
 no_27 : ◌≡◌ {A = ℕ} 27 0 → ⊥
 no_27 e = omega arith
@@ -55,9 +50,9 @@ unfolding seed_refusal
 other_seed seed h = rw (ne_eqb seed 0 h)
 
 -- ---- `state_at`
-pub state_code : (seed : ℕ) → refusal_code (seed_refusal seed) ≡ number_of (seed_refusal seed) * 2 ^ 32 + value_of (seed_refusal seed)
-state_code zero = coded (seed_refusal zero) (subst (λ (x : Result (Unit {0}) Refusal). value_of x < 2 ^ 32) (sym zero_seed) (omega arith))
-state_code (suc seed) = coded (seed_refusal (suc seed)) (subst (λ (x : Result (Unit {0}) Refusal). value_of x < 2 ^ 32) (sym (other_seed (suc seed) (above_zero seed))) (omega arith))
+pub state_code : (seed : ℕ) → accepted_code (seed_refusal seed) ≡ number_of (seed_refusal seed) * 2 ^ 32 + value_of (seed_refusal seed)
+state_code zero = accepted_code_lem (seed_refusal zero) (rw zero_seed (omega arith))
+state_code (suc seed) = accepted_code_lem (seed_refusal (suc seed)) (rw (other_seed (suc seed) (above_zero seed)) (omega arith))
 
 pub state_leaves : (n : ℕ) (out : List Float) → state_written 0 n out ≡ out
 unfolding state_written
@@ -106,11 +101,11 @@ module _ (bytes list : List ℕ) (fractions : List Float) where
   run_number (suc seed) = inl (subst (λ (n : ℕ). n ≤ 5) (sym (ap number_of (then_rows (suc seed) (above_zero seed)) ∙ rows_number (mixed_of bytes list fractions))) (rows_at_most_5 bytes list fractions))
 
   pub run_value : (seed : ℕ) → value_of (run_refusal bytes list fractions seed) < 2 ^ 32
-  run_value zero = subst (λ (x : Result (Unit {0}) Refusal). value_of x < 2 ^ 32) (sym zero_seed_first) (omega arith)
+  run_value zero = rw zero_seed_first (omega arith)
   run_value (suc seed) = subst (λ (n : ℕ). n < 2 ^ 32) (sym (ap value_of (then_rows (suc seed) (above_zero seed)) ∙ rows_values (mixed_of bytes list fractions))) (rows_value bytes list fractions)
 
-  pub run_code : (seed : ℕ) → refusal_code (run_refusal bytes list fractions seed) ≡ number_of (run_refusal bytes list fractions seed) * 2 ^ 32 + value_of (run_refusal bytes list fractions seed)
-  run_code seed = coded (run_refusal bytes list fractions seed) (run_value seed)
+  pub run_code : (seed : ℕ) → accepted_code (run_refusal bytes list fractions seed) ≡ number_of (run_refusal bytes list fractions seed) * 2 ^ 32 + value_of (run_refusal bytes list fractions seed)
+  run_code seed = accepted_code_lem (run_refusal bytes list fractions seed) (run_value seed)
 
   -- number 0 is no refusal's: the seed is not 0, and rows 1 to 5 refuse nothing
   pub run_accepted : (seed : ℕ) → number_of (run_refusal bytes list fractions seed) ≡ 0 → (m : Mixed) × (run_refusal bytes list fractions seed ≡ passed) × (mixed_of bytes list fractions ≡ Ok m)

@@ -3,8 +3,7 @@ use Rattle.std.specs.Prelude.{List, [], ◌∷◌, ℕ, zero, suc, ◌+◌, eqb,
 use Rattle.numerics.specs.Double.{pick}
 use Rattle.numerics.specs.Loop.{tabulate}
 use Rattle.generator.specs.Generator.{state_of}
-use Rattle.gerg_refusals.specs.Answer.{number_of, value_of, passed, and_then, memory_of}
-use Rattle.gerg_refusals.specs.Code.{code_of}
+use Rattle.gerg_refusals.specs.Answer.{number_of, passed, and_then, memory_of}
 use Rattle.gerg_refusals.specs.declared.Refusal.{Refusal}
 use Rattle.gerg_refusals.specs.declared.Refusal.TheVariants as refusal
 use Rattle.gerg_prepared.specs.Mixed.{mixed_of}
@@ -46,7 +45,3 @@ run_refusal bytes list fractions seed = and_then (seed_refusal seed) (λ u. and_
 -- the call `count_refusals`: 38 lent numbers afterwards
 unfoldable pub counts_written : List ℕ → List ℕ → List Float → Run → List ℕ → List ℕ
 counts_written bytes list fractions run out = memory_of (run_refusal bytes list fractions run.seed) out (λ u. counts_of bytes list fractions run)
-
--- the C exports: number × 2^32 + value
-unfoldable pub refusal_code : Result (Unit {0}) Refusal → ℕ
-refusal_code r = code_of (number_of r) (value_of r)

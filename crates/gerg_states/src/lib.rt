@@ -4,7 +4,7 @@
 ghost use Rattle.std.specs.Prelude.{◌≡◌};
 ghost use Rattle.gerg_states.specs.States as is;
 
-use gerg_refusals::{Refusal, code};
+use gerg_refusals::Refusal;
 
 pub mod counts;
 pub mod state;
@@ -26,12 +26,4 @@ fn seed_refusal(seed: u64) -> Result<(), Refusal>
         return Err(Refusal::ZeroSeed);
     }
     Ok(())
-}
-
-// What a C export makes of an answer.
-#[tactic(auto, unfolding(crate::specs::States::refusal_code, gerg_refusals::specs::Code::code))]
-pub fn refusal_code(answer: Result<(), Refusal>) -> u64
-    ensures { result ≡ is.refusal_code answer }
-{
-    code::code(answer.map(|()| 0))
 }

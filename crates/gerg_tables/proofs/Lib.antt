@@ -2,3 +2,4 @@
 pub mod Finite
 pub mod Some
 pub mod Faults
+pub mod Departure

@@ -2,7 +2,7 @@
 use denote.Param.Members.{Mut}
 use mathlib.Core.Bool.{Bool, ◌||◌}
 use mathlib.Core.Path.{◌≡◌, refl, ap, ◌∙◌}
-use Prim.Native.Nat.{ℕ, zero, suc, ◌+◌, ◌-◌, ◌<◌}
+use Prim.Native.Nat.{ℕ, zero, suc, ◌+◌, ◌-◌, ◌≤◌, ◌<◌}
 use native.Mathlib.Omega.{arith}
 use Rattle.std.proofs.Common.{Result, Ok, Err}
 use Rattle.std.proofs.iter.Yields.{nat_range_steps}
@@ -38,6 +38,6 @@ module _ (f : ℕ → Result (Unit {0}) Fault) (n i : ℕ) {v : Result (Unit {0}
   pub no_fault_yet : {u : Unit {0}} → i < n → f i ≡ Ok u → v ≡ first f (n - (i + 1)) (i + 1)
   no_fault_yet h e = tried h ∙ rw e
 
-  pub no_fault : i ≡ n → v ≡ Ok tt
+  pub no_fault : n ≤ i → v ≡ Ok tt
   unfolding first
   no_fault h = r ∙ ap (λ (m : ℕ). first f m i) (let g : n - i ≡ 0 = omega arith in g)

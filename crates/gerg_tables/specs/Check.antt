@@ -1,10 +1,11 @@
 -- Row 2: the first fault of the tables. Components are counted from 0 here.
-use Rattle.std.specs.Prelude.{Bool, false, not, ◌&&◌, ◌||◌, cond, List, ℕ, zero, suc, ◌+◌, ◌-◌, ◌*◌, ltb, eqb, get_or, Float, Result, Ok, Err}
+use Rattle.std.specs.Prelude.{◌≡◌, Bool, false, not, ◌&&◌, ◌||◌, cond, List, ℕ, zero, suc, ◌+◌, ◌-◌, ◌*◌, ltb, eqb, get_or, Float, Result, Ok, Err}
 use Rattle.std.specs.Float.{nan}
 use Rattle.std.specs.Float.Ieee.{lt}
 use Rattle.std.specs.Float.Ieee.Scale.{finite}
 use Rattle.numerics.specs.Double.{+0}
 use Rattle.gerg_refusals.specs.declared.Fault.{Fault}
+use Rattle.gerg_refusals.specs.Answer.{and_then}
 use Rattle.gerg_refusals.specs.declared.Fault.TheVariants.{Btij, Bvij, Gtij, Gvij, Fij, Critical, NotPositive, Departure}
 use Rattle.gerg_tables.specs.Tables.{tc, mmi_gerg, btij, bvij, m_numb}
 
@@ -37,8 +38,7 @@ fault_if test fault = cond test (Err fault) (Ok tt)
 
 -- the first of two faults
 abbrev pub first_of : Result (Unit {0}) Fault → Result (Unit {0}) Fault → Result (Unit {0}) Fault
-first_of (Ok u) b = b
-first_of (Err fault) b = Err fault
+first_of a b = and_then a (λ u. b)
 
 -- the first of the faults f i, f (i + 1), .., n of them
 unfoldable pub first : (ℕ → Result (Unit {0}) Fault) → ℕ → ℕ → Result (Unit {0}) Fault
@@ -55,6 +55,10 @@ of_number (suc (suc (suc (suc q)))) = Fij
 
 abbrev pub number_fault : List Float → ℕ → Result (Unit {0}) Fault
 number_fault doubles q = fault_if (some_nonfinite doubles q) (of_number q)
+
+-- every number of the pairs is finite
+abbrev pub PairsFinite : List Float → Type 0
+PairsFinite doubles = first (number_fault doubles) 5 0 ≡ Ok tt
 
 -- "Tc nonfinite or mass not finite and positive (6)"
 abbrev pub bad_critical : List Float → ℕ → Bool

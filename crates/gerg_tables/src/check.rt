@@ -1,9 +1,9 @@
-// Row 2: the check of the tables. Components are counted from 0.
-ghost use Rattle.std.specs.Prelude.{◌≡◌, true, ℕ, ◌+◌, ◌-◌, ◌*◌, ◌≤◌, ◌<◌, get_or, Ok};
-ghost use Rattle.std.specs.Float.{nan};
+// Row 2: the check of the tables. Components are counted from 0. Indices are plain numbers: a type with the bound would be made at each turn of a range and opened at each read.
+ghost use Rattle.std.specs.Prelude.{◌≡◌, true, List, ℕ, Float, ◌+◌, ◌-◌, ◌*◌, ◌≤◌, ◌<◌, Ok};
 ghost use Rattle.gerg_tables.specs.Check as Check;
 ghost use Rattle.gerg_tables.specs.Check.{some_from};
 
+use crate::named::{btij, bvij, fij, gtij, gvij, m_numb, mmi_gerg, tc};
 use crate::numbers::is_finite;
 use gerg_refusals::Fault;
 
@@ -13,27 +13,24 @@ fn positive(x: f64) -> bool
     0.0 < x
 }
 
-// Whether number q of the pair i, j is not finite: btij, bvij, gtij, gvij, fij for q from 0 to 4.
-fn nonfinite(doubles: &[f64; 4086], q: usize, i: usize, j: usize) -> bool
-    requires { (q < 5) × ((i < 21) × (j < 21)) }
-    ensures { result ≡ Check.nonfinite doubles.now q i j }
+// Whether a number of a pair i ≤ j is not finite, for row i of the pairs. A row has a function of its own, also below: of an `any` within an `any` the proof did not close.
+fn some_nonfinite_row<F: Fn(usize, usize) -> f64>(number: &F, i: usize) -> bool
+    requires callable { (j : ℕ) → i ≤ j → j < 21 → F.pre number.now i j }
+    ensures { (doubles : List Float) (q : ℕ) → ((j : ℕ) (r : Float) → F.post number.now i j r → r ≡ Check.pair_number doubles q i j) → result ≡ some_from (Check.nonfinite doubles q i) i }
 {
-    !is_finite(doubles[1281 + 105 * i + 5 * j + q])
+    (i..21).any(
+        |j|
+            requires { F.pre number.now i j }
+        { !is_finite(number(i, j)) },
+    )
 }
 
-// A row has a function of its own, also below: of an `any` within an `any` the proof did not close.
-fn some_nonfinite_row(doubles: &[f64; 4086], q: usize, i: usize) -> bool
-    requires { (q < 5) × (i < 21) }
-    ensures { result ≡ some_from (Check.nonfinite doubles.now q i) i }
+// The same for all rows; `number` reads one of the five numbers of a pair.
+fn some_nonfinite<F: Fn(usize, usize) -> f64>(number: F) -> bool
+    requires callable { (i j : ℕ) → i ≤ j → j < 21 → F.pre number i j }
+    ensures { (doubles : List Float) (q : ℕ) → ((i j : ℕ) (r : Float) → F.post number i j r → r ≡ Check.pair_number doubles q i j) → result ≡ Check.some_nonfinite doubles q }
 {
-    (i..21).any(|j| nonfinite(doubles, q, i, j))
-}
-
-fn some_nonfinite(doubles: &[f64; 4086], q: usize) -> bool
-    requires { q < 5 }
-    ensures { result ≡ Check.some_nonfinite doubles.now q }
-{
-    (0..21).any(|i| some_nonfinite_row(doubles, q, i))
+    (0..21).any(|i| some_nonfinite_row(&number, i))
 }
 
 fn fault_if(test: bool, fault: Fault) -> Result<(), Fault>
@@ -48,17 +45,17 @@ fn fault_if(test: bool, fault: Fault) -> Result<(), Fault>
 // The fault of the first number of the pairs that is not finite; none is where `finite` says so.
 #[tactic(auto, unfolding(crate::specs::Check::first))]
 fn first_nonfinite(doubles: &[f64; 4086], finite: bool) -> Result<(), Fault>
-    requires { finite ≡ true → Check.first (Check.number_fault doubles.now) 5 0 ≡ Ok tt }
+    requires { finite ≡ true → Check.PairsFinite doubles.now }
     ensures { result ≡ Check.first (Check.number_fault doubles.now) 5 0 }
 {
     if finite {
         return Ok(());
     }
-    fault_if(some_nonfinite(doubles, 0), Fault::Btij)?;
-    fault_if(some_nonfinite(doubles, 1), Fault::Bvij)?;
-    fault_if(some_nonfinite(doubles, 2), Fault::Gtij)?;
-    fault_if(some_nonfinite(doubles, 3), Fault::Gvij)?;
-    fault_if(some_nonfinite(doubles, 4), Fault::Fij)
+    fault_if(some_nonfinite(|i, j| btij(doubles, i, j)), Fault::Btij)?;
+    fault_if(some_nonfinite(|i, j| bvij(doubles, i, j)), Fault::Bvij)?;
+    fault_if(some_nonfinite(|i, j| gtij(doubles, i, j)), Fault::Gtij)?;
+    fault_if(some_nonfinite(|i, j| gvij(doubles, i, j)), Fault::Gvij)?;
+    fault_if(some_nonfinite(|i, j| fij(doubles, i, j)), Fault::Fij)
 }
 
 // Whether Tc of component i is not finite, or its mass not finite and positive.
@@ -66,8 +63,8 @@ fn bad_critical(doubles: &[f64; 4086], i: usize) -> bool
     requires { i < 21 }
     ensures { result ≡ Check.bad_critical doubles.now i }
 {
-    let mass = doubles[2 * i + 1];
-    !(is_finite(doubles[2 * i]) && is_finite(mass) && positive(mass))
+    let mass = mmi_gerg(doubles, i);
+    !(is_finite(tc(doubles, i)) && is_finite(mass) && positive(mass))
 }
 
 // Whether btij or bvij is not positive.
@@ -75,7 +72,7 @@ fn not_positive(doubles: &[f64; 4086], i: usize, j: usize) -> bool
     requires { (i < 21) × (j < 21) }
     ensures { result ≡ Check.not_positive doubles.now i j }
 {
-    !(positive(doubles[1281 + 105 * i + 5 * j]) && positive(doubles[1282 + 105 * i + 5 * j]))
+    !(positive(btij(doubles, i, j)) && positive(bvij(doubles, i, j)))
 }
 
 fn some_not_positive(doubles: &[f64; 4086], i: usize) -> bool
@@ -109,7 +106,7 @@ fn bad_number(integers: &[u8; 1631], count: usize, i: usize, j: usize) -> bool
     requires { (i < 21) × (j < 21) }
     ensures { result ≡ Check.bad_number integers.now count i j }
 {
-    let m = integers[1050 + 21 * i + j];
+    let m = m_numb(integers, i, j);
     m < 128 && (m == 0 || count < usize::from(m))
 }
 
@@ -127,7 +124,7 @@ fn some_bad_number(integers: &[u8; 1631], count: usize) -> bool
 }
 
 // The first fault of the tables of a file with `count` departure functions. `finite` tells that the numbers of the pairs are: whoever stored
-// them has looked at each already.
+// them has looked at each already. It is a flag, since a file with a number that is not finite comes here too, with `false`.
 #[tactic(auto, unfolding(crate::specs::Check::fault_of))]
 pub fn fault(
     doubles: &[f64; 4086],
@@ -135,7 +132,7 @@ pub fn fault(
     count: usize,
     finite: bool,
 ) -> Result<(), Fault>
-    requires { finite ≡ true → Check.first (Check.number_fault doubles.now) 5 0 ≡ Ok tt }
+    requires { finite ≡ true → Check.PairsFinite doubles.now }
     ensures { result ≡ Check.fault_of doubles.now integers.now count }
 {
     first_nonfinite(doubles, finite)?;

@@ -24,7 +24,7 @@ impl<'a> Coefficients<'a> {
         usize::from(named::kpol(self.integers, i)) + usize::from(named::kexp(self.integers, i))
     }
 
-    // How many terms departure function m has.
+    // How many terms departure function m has. Beside `pure_terms`: the two differ in their readers, in the field that bounds them and in the bound.
     pub fn departure_terms(self, m: usize) -> usize
         requires { m < 10 }
         ensures count { result ≡ named.kpolij self.entry.integers.now m + named.kexpij self.entry.integers.now m }

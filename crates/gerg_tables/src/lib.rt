@@ -6,7 +6,7 @@ pub mod coefficients;
 pub mod named;
 pub mod numbers;
 
-// The tables of a coefficient file as two flat arrays.
+// The tables of a coefficient file, in fixed memory as document 01 has them: "held as flat arrays".
 #[derive(Clone, Copy)]
 pub struct Tables {
     // Tc, MMiGERG; n0i, th0i; noik, toik; btij, bvij, gtij, gvij, fij; cijk, eijk, gijk, nijk, tijk

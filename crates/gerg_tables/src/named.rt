@@ -1,5 +1,6 @@
 // A reader for each number of the tables, under its name in the NIST AGA8 code. The arrays are lent and never copied.
 // Each is one index expression with the bounds of its own indices: one reader for all would take the place for the name.
+// They take one array and no `Coefficients`: the check of row 2 reads by them before there is one.
 ghost use Rattle.std.specs.Prelude.{◌≡◌, ◌<◌};
 ghost use Rattle.gerg_tables.specs.Tables as named;
 

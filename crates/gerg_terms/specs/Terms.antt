@@ -7,10 +7,12 @@ use Rattle.numerics.specs.Iterate.{iter, range}
 use Rattle.elementary_exp.specs.Exp.{exp_of}
 use Rattle.elementary_ln.specs.Ln.{ln_of}
 use Rattle.elementary.specs.Power.{powf_of, powi_byte_of, signed_double_of}
-use Rattle.elementary.specs.Hyperbolic.{sinh_of, cosh_of, tanh_of}
 use Rattle.gerg_tables.specs.declared.Tables.{Tables}
 use Rattle.gerg_tables.specs.Tables.{n0i, th0i, noik, toik, fij, cijk, eijk, gijk, nijk, tijk, kpol, kexp, coik, doik, m_numb, kpolij, kexpij, dijk}
 use Rattle.gerg_reducing.specs.Reduced.{absent, thousand}
+use Rattle.gerg_isotherm.specs.declared.part.Part.{Part}
+use Rattle.gerg_isotherm.specs.declared.part.Part.TheVariants.{Sinh, Cosh}
+use Rattle.gerg_isotherm.specs.Parts.{function, slope}
 use Rattle.gerg_derivatives.specs.declared.derivatives.GergDerivatives.{GergDerivatives}
 use Rattle.gerg_derivatives.specs.declared.parts.Exponent.{Exponent}
 use Rattle.gerg_derivatives.specs.Parts.{damping_of, damped_term, ideal_added, ideal_taken, departed_term}
@@ -48,28 +50,26 @@ ideal_base doubles x temperature rho i a =
     (x ⊗ n0i doubles i 2)
     a
 
--- n0i and th0i 4 and 6: c their coefficient, v the quotient of th0i and T; the square is powi's with n = 2
-unfoldable pub sinh_term : Float → Float → Float → GergDerivatives → GergDerivatives
-sinh_term x c v a = ideal_added (x ⊗ c ⊗ ln_of (sinh_of v)) (x ⊗ c ⊗ v ⊘ tanh_of v) (x ⊗ c ⊗ powi_byte_of (v ⊘ sinh_of v) 2) a
+-- a part of sinh is added, one of cosh taken
+abbrev pub combined : Part → Float → Float → Float → GergDerivatives → GergDerivatives
+combined Sinh = ideal_added
+combined Cosh = ideal_taken
 
--- n0i and th0i 5 and 7
-unfoldable pub cosh_term : Float → Float → Float → GergDerivatives → GergDerivatives
-cosh_term x c v a = ideal_taken (x ⊗ c ⊗ ln_of (cosh_of v)) (x ⊗ c ⊗ v ⊗ tanh_of v) (x ⊗ c ⊗ powi_byte_of (v ⊘ cosh_of v) 2) a
+-- n0i and th0i 4 to 7: c their coefficient, v the quotient of th0i and T; the square is powi's with n = 2
+unfoldable pub part_term : Part → Float → Float → Float → GergDerivatives → GergDerivatives
+part_term part x c v a = combined part (x ⊗ c ⊗ ln_of (function part v)) (slope part (x ⊗ c ⊗ v) v) (x ⊗ c ⊗ powi_byte_of (v ⊘ function part v) 2) a
 
 -- "th0i = 0 is passed over"; j = 0 stands for 4
-unfoldable pub sinh_part : List Float → Float → Float → ℕ → ℕ → GergDerivatives → GergDerivatives
-sinh_part doubles x temperature i j a = pick (eq (th0i doubles i j) +0) a (sinh_term x (n0i doubles i (3 + j)) (th0i doubles i j ⊘ temperature) a)
-
-unfoldable pub cosh_part : List Float → Float → Float → ℕ → ℕ → GergDerivatives → GergDerivatives
-cosh_part doubles x temperature i j a = pick (eq (th0i doubles i j) +0) a (cosh_term x (n0i doubles i (3 + j)) (th0i doubles i j ⊘ temperature) a)
+unfoldable pub ideal_term : Part → List Float → Float → Float → ℕ → ℕ → GergDerivatives → GergDerivatives
+ideal_term part doubles x temperature i j a = pick (eq (th0i doubles i j) +0) a (part_term part x (n0i doubles i (3 + j)) (th0i doubles i j ⊘ temperature) a)
 
 -- the ideal part of component i, in the order of its numbers
 unfoldable pub ideal_part : List Float → Float → Float → Float → ℕ → GergDerivatives → GergDerivatives
 ideal_part doubles x temperature rho i a =
-    cosh_part doubles x temperature i 3
-    (sinh_part doubles x temperature i 2
-    (cosh_part doubles x temperature i 1
-    (sinh_part doubles x temperature i 0
+    ideal_term Cosh doubles x temperature i 3
+    (ideal_term Sinh doubles x temperature i 2
+    (ideal_term Cosh doubles x temperature i 1
+    (ideal_term Sinh doubles x temperature i 0
     (ideal_base doubles x temperature rho i a))))
 
 -- the exponent c + e + g past kpolij, c and e with their powers of delta; 0 among the polynomial terms

@@ -3,6 +3,6 @@
 
 pub mod departure;
 pub mod ideal;
-pub mod point;
+pub mod lent;
 pub mod pure;
 pub mod sums;

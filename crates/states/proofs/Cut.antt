@@ -80,7 +80,7 @@ module _ (file : List ℕ) (m : ℕ) (h : 28378 ≤ m) where
     report_cut =
         let r = same_refusal (take m file) file list fractions seed file_cut tables_cut in
         let n : number_at (take m file) list fractions seed ≡ number_at file list fractions seed = fun_ext (same_number (take m file) file list fractions seed file_cut tables_cut) in
-        cc
+        rw (r, n)
 
 -- ---- an input cut after 30,686 bytes or more: 13, 9 for each of 255 components, and those of the file
 drop_take : (n m : ℕ) (l : List ℕ) → n ≤ length l → drop n (take (n + m) l) ≡ take m (drop n l)

@@ -2,3 +2,4 @@
 pub mod Lines
 pub mod Input
 pub mod Cut
+pub mod Lengths

@@ -36,4 +36,4 @@ module _ (seed states : ℕ) (list : List ℕ) (fractions : List Float) (file : 
       let f = count_of (number_at file list fractions seed) 0 states in
       let c = w ∙ accepted_counts file list fractions (run_of seed 0 states) out (sym e ∙ n) in
       ap (λ l. line_from seed states ++ l) (lines_same counts f c)
-      ∙ sym (ap (λ (x : Result (Unit {0}) Refusal). told x (lines_of seed states f)) (sym e ∙ n))
+      ∙ sym (ap (λ (x : Result (Unit {0}) Refusal). told (λ passed. lines_of seed states f) x) (sym e ∙ n))

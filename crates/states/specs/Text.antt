@@ -7,8 +7,8 @@ use Rattle.gerg_coefficients.specs.Load.{doubles_at}
 use Rattle.gerg_refusals.specs.Refusal.{number_of, value_of}
 use Rattle.gerg_refusals.specs.declared.Refusal.{Refusal}
 use Rattle.gerg_states.specs.States.{number_at, count_of, run_refusal}
+use Rattle.states.specs.declared.report.Counted.{Counted}
 use Rattle.states.specs.declared.report.Report.{Report}
-use Rattle.states.specs.declared.report.Report.TheVariants.{Counted, Refused}
 
 -- "the seed (8 bytes)
 abbrev pub seed_of : List ℕ → ℕ
@@ -42,14 +42,14 @@ unfoldable pub lines_of : ℕ → ℕ → (ℕ → ℕ) → List ℕ
 lines_of seed states counts = line_from seed states ++ count_lines counts 37
 
 -- "A refused seed, file or mixture prints its number and value on one line and no more"
-abbrev pub told : Result (Unit {0}) Refusal → List ℕ → List ℕ
-told (Ok u) lines = lines
-told (Err r) lines = line_from (number_of r) (value_of r)
+abbrev pub told : {A : Type 0} → (A → List ℕ) → Result A Refusal → List ℕ
+told lines (Ok a) = lines a
+told lines (Err r) = line_from (number_of r) (value_of r)
 
 -- the run of a seed from state 0 on
 unfoldable pub report_of : ℕ → ℕ → List ℕ → List Float → List ℕ → List ℕ
 report_of seed states list fractions file =
-    told (run_refusal file list fractions seed) (lines_of seed states (count_of (number_at file list fractions seed) 0 states))
+    told (λ passed. lines_of seed states (count_of (number_at file list fractions seed) 0 states)) (run_refusal file list fractions seed)
 
 -- "input cut before the file begins is taken as one with an empty file and a seed of 1"
 unfoldable pub text_of : List ℕ → List ℕ
@@ -58,7 +58,12 @@ text_of s =
     (report_of (seed_of s) (states_of s) (list_of s) (fractions_of s) (file_of s))
     (report_of 1 0 [] [] [])
 
--- the bytes that the code's report is printed as
+-- the bytes that the code's counts and its report are printed as
+abbrev pub counted_text : Counted → List ℕ
+counted_text counted = line_text counted.run ++ count_lines_text counted.counts
+
+abbrev pub answer_text : Result Counted Refusal → List ℕ
+answer_text answer = told counted_text answer
+
 abbrev pub report_text : Report → List ℕ
-report_text (Counted run counts) = line_text run ++ count_lines_text counts
-report_text (Refused refusal) = line_text refusal
+report_text report = answer_text report.answer

@@ -3,24 +3,40 @@ ghost use Rattle.std.specs.Prelude.{◌≡◌, Some};
 ghost use Rattle.states.specs.Text as is;
 
 use decimal_lines::{CountLines, Line};
+use gerg_refusals::Refusal;
 use gerg_states::Run;
 use gerg_states::counts::count_refusals;
 use std::fmt;
 
-// A run's seed and number of states with how many of them each number refuses, or the number and value of the refusal of all.
+// A run's seed and number of states with how many of them each number refuses.
 #[derive(Clone, Copy)]
-pub enum Report {
-    Counted { run: Line, counts: [u64; 38] },
-    Refused(Line),
+pub struct Counted {
+    pub run: Line,
+    pub counts: [u64; 38],
+}
+
+impl fmt::Display for Counted {
+    ghost output = { λ counted. Some (is.counted_text counted) };
+
+    fn fmt<W: fmt::Write>(&self, f: &mut fmt::Formatter<W>) -> fmt::Result {
+        let Counted { run, counts } = self;
+        write!(f, "{run}{}", CountLines(counts))
+    }
+}
+
+// What was counted, or the refusal of all: a type of its own, since `Display` cannot be given to a `Result`.
+#[derive(Clone, Copy)]
+pub struct Report {
+    pub answer: Result<Counted, Refusal>,
 }
 
 impl fmt::Display for Report {
     ghost output = { λ report. Some (is.report_text report) };
 
     fn fmt<W: fmt::Write>(&self, f: &mut fmt::Formatter<W>) -> fmt::Result {
-        match self {
-            Report::Counted { run, counts } => write!(f, "{run}{}", CountLines(counts)),
-            Report::Refused(refusal) => write!(f, "{refusal}"),
+        match self.answer {
+            Ok(counted) => write!(f, "{counted}"),
+            Err(refusal) => write!(f, "{}", Line::from(refusal)),
         }
     }
 }
@@ -38,17 +54,18 @@ impl Report {
             states,
         };
         match count_refusals(file, list, fractions, run, &mut counts) {
-            Ok(()) => Report::Counted {
-                run: Line {
-                    number: seed,
-                    value: u64::from(states),
-                },
-                counts,
+            Ok(()) => Report {
+                answer: Ok(Counted {
+                    run: Line {
+                        number: seed,
+                        value: u64::from(states),
+                    },
+                    counts,
+                }),
             },
-            Err(refusal) => Report::Refused(Line {
-                number: u64::from(refusal.number()),
-                value: refusal.value() as u64,
-            }),
+            Err(refusal) => Report {
+                answer: Err(refusal),
+            },
         }
     }
 }

@@ -18,8 +18,8 @@ fn read_doubles(input: &[u8], at: usize, doubles: &mut [f64])
     requires { at + 8 * length doubles.old ≤ length input.now }
     ensures { doubles.new ≡ doubles_at input.now at (length doubles.old) }
 {
-    for k in 0..doubles.len() {
-        doubles[k] = double_inside(input, at + 8 * k);
+    for (k, double) in doubles.iter_mut().enumerate() {
+        *double = double_inside(input, at + 8 * k);
     }
 }
 

@@ -6,13 +6,15 @@ ghost use Rattle.tablecheck.specs.Line.{line_of};
 
 use decimal_lines::Line;
 
-// The line of a coefficient file.
+// The line of a coefficient file. A length has no `From` into 64 bits.
 pub fn line(file: &[u8]) -> Line
     ensures { line_text result ≡ line_of (answer_of file.now) }
 {
-    let read = gerg_coefficients::read_tables(file);
-    Line {
-        number: gerg_coefficients::number(read.answer),
-        value: gerg_coefficients::value(read.answer),
+    match gerg_coefficients::read_tables(file).answer {
+        Ok(length) => Line {
+            number: 0,
+            value: length as u64,
+        },
+        Err(refusal) => Line::from(refusal),
     }
 }

@@ -1,9 +1,9 @@
 -- The written front of a list: what stands at its places, and the part that is lent on. Assumes nothing.
 use mathlib.Core.Path.{◌≡◌, ap, ◌∙◌}
 use mathlib.Core.List.{List, ◌++◌}
-use Prim.Native.Nat.{ℕ, ◌<◌}
-use lib.ListN.{get_or, take, drop, get_or-append}
-use lib.Seq.{take_at}
+use Prim.Native.Nat.{ℕ, ◌≤◌, ◌<◌}
+use lib.ListN.{length, get_or, take, drop, get_or-append}
+use lib.Seq.{take_at, length-take-le}
 use Rattle.numerics.specs.Fill.{tabulate, filled, length_tabulate, get_d_tabulate}
 
 pub get_d_filled : {A : Type 0} (f : ℕ → A) (n k : ℕ) (l : List A) (d : A) → k < n → get_or (filled f n l) k d ≡ f k
@@ -19,3 +19,7 @@ module _ {A : Type 0} (f : ℕ → A) (n : ℕ) (all rest : List A) where
 
   pub copied_front : (l front : List A) → all ≡ filled f n rest → front ≡ take n all → front ++ drop n l ≡ filled f n l
   copied_front l front e c = ap (λ (a : List A). a ++ drop n l) (c ∙ ap (take n) e ∙ take_filled f n rest)
+
+-- a list whose front was lent and written
+pub written_front : {A : Type 0} (f : ℕ → A) (n : ℕ) (l : List A) {front : List A} → n ≤ length l → front ≡ tabulate f (length (take n l)) → front ++ drop n l ≡ filled f n l
+written_front {A = A} f n l h e = ap (λ (a : List A). a ++ drop n l) (e ∙ ap (tabulate f) (length-take-le n l h))

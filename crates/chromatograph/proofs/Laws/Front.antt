@@ -1,57 +1,59 @@
 -- Row 3 looks at 22 places at most: the 22nd is bad whatever it holds. Assumes nothing.
-use mathlib.Core.Path.{◌≡◌, refl, sym, ap, ap₂, ◌∙◌}
-use mathlib.Core.Bool.{Bool, true}
-use mathlib.Core.List.{List}
-use Prim.Native.Nat.{ℕ, zero, suc, ◌+◌, ◌≤◌, ◌<◌}
+use mathlib.Core.Path.{◌≡◌, refl, ap, ◌∙◌}
+use mathlib.Core.Bool.{Bool, true, false}
+use Prim.Native.Nat.{ℕ, min, ◌≤◌, ◌<◌}
 use native.Mathlib.Omega.{arith}
-use lib.Dec.{eqb}
-use lib.ListN.{length, get_or, take}
-use Rattle.numerics.specs.Double.{pick}
-use Rattle.numerics.specs.Fill.{tabulate, filled, length_tabulate, get_d_tabulate}
+use borrow.Author.Tests.{lt-ltb, ltb-true, ltb-false, ne_eqb}
+use lib.Dec.{eqb, ltb}
+use lib.ListN.{get_or}
+use Rattle.numerics.specs.Fill.{tabulate, length_tabulate, get_d_tabulate}
 use Rattle.gerg_model.specs.MixtureCheck.{first_place, bad_number}
-use Rattle.chromatograph.specs.Lists.{bad_place}
-use Rattle.chromatograph.proofs.Laws.Filled.{take_filled}
+use Rattle.gerg_model.proofs.Laws.First.{first_is, first_before, first_holds, first_at_most, first_alike}
+use Rattle.chromatograph.specs.Lists.{bad_place, bad_list, row_3}
 
--- tests that agree have the same first place
-agree : (P Q : ℕ → Bool) (n k : ℕ) → ((j : ℕ) → j < k + n → P j ≡ Q j) → first_place P n k ≡ first_place Q n k
-unfolding first_place
-agree P Q zero k h = refl
-agree P Q (suc n) k h =
-    ap₂ (λ (b : Bool) (r : ℕ). pick b k r) (h k (omega arith)) (agree P Q n (k + 1) (λ j l. h j (omega arith)))
+module _ (f : ℕ → ℕ) where
+  abbrev bad : ℕ → ℕ → Bool
+  bad n = bad_number (tabulate f n)
 
--- so do tests that agree up to a place which both hold of, over any two lengths past it
-decided : (P Q : ℕ → Bool) (d n m k : ℕ) → P (k + d) ≡ true → ((j : ℕ) → j ≤ k + d → P j ≡ Q j) → d < n → d < m → first_place P n k ≡ first_place Q m k
-unfolding first_place
-decided P Q d zero m k t h l g = absurd (omega arith)
-decided P Q d (suc n) zero k t h l g = absurd (omega arith)
-decided P Q zero (suc n) (suc m) k t h l g =
-    let z : k + 0 ≡ k = omega arith in
-    let p : P k ≡ true = rw z at t in
-    let q : Q k ≡ true = sym (h k (omega arith)) ∙ p in
-    rw (p, q)
-decided P Q (suc d) (suc n) (suc m) k t h l g =
-    let z : k + suc d ≡ k + 1 + d = omega arith in
-    let u : P (k + 1 + d) ≡ true = rw z at t in
-    ap₂ (λ (b : Bool) (r : ℕ). pick b k r) (h k (omega arith)) (decided P Q d n m (k + 1) u (λ j e. h j (omega arith)) (omega arith) (omega arith))
-
-module _ (f : ℕ → ℕ) (n m : ℕ) where
-  -- a place of two lists with the same front is bad in both or in none
-  same_bad : (k : ℕ) → k < n → k < m → bad_number (tabulate f n) k ≡ bad_number (tabulate f m) k
+  early : (n : ℕ) → 21 < n → first_place (bad n) n 0 ≤ 21
   unfolding bad_number
-  same_bad k l g =
+  early n l = first_at_most (bad n) n 21 l refl
+
+  -- a place of two lists with the same front is bad in both or in none
+  same_bad : (n m k : ℕ) → k < n → k < m → bad n k ≡ bad m k
+  unfolding bad_number
+  same_bad n m k l g =
       let a = get_d_tabulate f n k 0 l in
       let b = get_d_tabulate f m k 0 g in
-      let e = agree (λ j. eqb (get_or (tabulate f n) j 0) (f k)) (λ j. eqb (get_or (tabulate f m) j 0) (f k)) k 0
+      let e = first_alike (λ j. eqb (get_or (tabulate f n) j 0) (f k)) (λ j. eqb (get_or (tabulate f m) j 0) (f k)) k
       (λ j h. rw (get_d_tabulate f n j 0 (omega arith), get_d_tabulate f m j 0 (omega arith))) in
       rw (a, b, e)
 
-  pub front_decides : 21 < n → 21 < m → bad_place (tabulate f n) ≡ bad_place (tabulate f m)
-  unfolding bad_place bad_number
-  front_decides l g =
-      rw (length_tabulate f n, length_tabulate f m)
-      (decided (bad_number (tabulate f n)) (bad_number (tabulate f m)) 21 n m 0 refl (λ j h. same_bad j (omega arith) (omega arith)) l g)
+  same_place : (n m : ℕ) → 21 < n → 21 < m → first_place (bad n) n 0 ≡ first_place (bad m) m 0
+  same_place n m l g =
+      let h = early m g in
+      first_is (bad n) n (first_place (bad m) m 0) (omega arith) (λ j i. same_bad n m j (omega arith) (omega arith) ∙ first_before (bad m) m j i)
+      (λ i. same_bad n m (first_place (bad m) m 0) i (omega arith) ∙ first_holds (bad m) m (omega arith))
 
--- the first bad place of a list that is the front of an array
-pub front_place : (f : ℕ → ℕ) (n : ℕ) (a rest : List ℕ) (place : ℕ) → a ≡ filled f n rest → place ≡ first_place (bad_number (take n a)) (length (take n a)) 0 → place ≡ bad_place (tabulate f n)
-unfolding bad_place
-front_place f n a rest place e p = p ∙ ap (λ (l : List ℕ). first_place (bad_number l) (length l) 0) (ap (take n) e ∙ take_filled f n rest)
+  refused : (n : ℕ) → 21 < n → bad_list (tabulate f n) ≡ true
+  unfolding bad_list bad_place
+  refused n l =
+      let h = early n l in
+      rw (length_tabulate f n, ne_eqb n 0 (λ (e : n ≡ 0). omega arith), lt-ltb (first_place (bad n) n 0) n (omega arith)) refl
+
+  pub front_decides : (n m : ℕ) → 21 < n → 21 < m → bad_place (tabulate f n) ≡ bad_place (tabulate f m)
+  unfolding bad_place
+  front_decides n m l g = rw (length_tabulate f n, length_tabulate f m) (same_place n m l g)
+
+  -- of the first 22 as of all
+  pub front_row_3 : (n all : ℕ) → n ≡ min all 22 → row_3 (tabulate f n) ≡ row_3 (tabulate f all)
+  unfolding row_3 bad_place
+  front_row_3 n all e = go (ltb all 22) refl
+    where
+      go : (b : Bool) → ltb all 22 ≡ b → row_3 (tabulate f n) ≡ row_3 (tabulate f all)
+      go true t = let l = ltb-true all 22 t in ap (λ (k : ℕ). row_3 (tabulate f k)) (let q : n ≡ all = omega arith in q)
+      go false t =
+          let l = ltb-false all 22 t in
+          let a : 21 < n = omega arith in
+          let b : 21 < all = omega arith in
+          rw (refused n a, refused all b, length_tabulate f n, length_tabulate f all, same_place n all a b) refl

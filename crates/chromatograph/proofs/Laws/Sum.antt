@@ -28,7 +28,7 @@ use Rattle.packed_decimal.specs.Record.{millionths, fraction_of}
 use Rattle.packed_decimal.specs.Records.{total_of}
 use Rattle.chromatograph.specs.Lists.{bad_place, bad_list}
 use Rattle.chromatograph.proofs.Laws.Known.{known}
-use Rattle.chromatograph.proofs.Laws.Wrong.{none_first}
+use Rattle.gerg_model.proofs.Laws.First.{first_is}
 use Rattle.packed_decimal.proofs.Laws.Total.{first, first_next, first_rises, part_at_most}
 use Rattle.chromatograph.proofs.Laws.Within.{near_one}
 
@@ -136,5 +136,5 @@ mixture_sound list parts paired known_list whole =
     let few : length parts ≤ 21 = omega (arith, (known list known_list).few) in
     let fs = fractions parts in
     let long : length fs ≡ length parts = length_tabulate (λ k. fraction_of (get_or parts k 0)) (length parts) in
-    let place : first_place (bad_fraction fs) (length fs) 0 ≡ 0 + length fs = none_first (bad_fraction fs) (length fs) 0 (λ d l. let z : 0 + d ≡ d = omega arith in rw z (good_fraction parts whole d (omega arith))) in
+    let place = first_is (bad_fraction fs) (length fs) (length fs) (omega arith) (λ d l. good_fraction parts whole d (omega arith)) (λ l. absurd (omega arith)) in
     rw (t.0, t.1, eq-eqb (length fs) (length list) (long ∙ paired), le-ltb (first_place (bad_fraction fs) (length fs) 0) (length fs) (omega arith), adds_up_lem parts few whole)

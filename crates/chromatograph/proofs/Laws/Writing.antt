@@ -1,21 +1,17 @@
--- The answers of `write_list`, test by test, and the records stored one after the other. Assumes nothing.
+-- The records stored one after the other, and when two lists are alike. Assumes nothing.
 use mathlib.Core.Path.{◌≡◌, refl, sym, ap, ◌∙◌}
-use mathlib.Core.Bool.{Bool, true, false, not, ◌||◌}
+use mathlib.Core.Bool.{false, not}
 use mathlib.Core.List.{List}
 use Prim.Native.Nat.{ℕ, suc, ◌+◌, ◌*◌, ◌≤◌, ◌<◌}
 use native.Mathlib.Numerals.{add-one}
 use native.Mathlib.Omega.{arith}
-use borrow.Author.Tests.{lt-ltb, le-ltb, eqb-true, not-false}
-use lib.Dec.{eqb, ltb}
+use borrow.Author.Tests.{eqb-true, not-false}
+use lib.Dec.{eqb}
 use lib.ListN.{length, get_or, length-append}
 use lib.Seq.{sets}
 use Rattle.numerics.specs.Fill.{sets_append}
 use Rattle.packed_decimal.specs.Record.{record_of}
-use Rattle.packed_decimal.specs.Records.{records_of, bad_total}
-use Rattle.chromatograph.specs.Lists.{bad_place, bad_list, write_answer, bytes_written}
-use Rattle.std.specs.Prelude.{Result, Ok, Err}
-use Rattle.gerg_refusals.specs.declared.Refusal.{Refusal}
-use Rattle.gerg_refusals.specs.declared.Refusal.TheVariants as refusal
+use Rattle.packed_decimal.specs.Records.{records_of}
 
 -- ---- the records
 record_bytes : (component parts : ℕ) → length (record_of component parts) ≡ 6
@@ -43,46 +39,5 @@ module _ (list parts : List ℕ) where
       f ∙ ap (λ (l : List ℕ). sets l (6 * n) r) e ∙ ap (λ (k : ℕ). sets (sets out 0 (records_of list parts n)) k r) at ∙ sets_append (records_of list parts n) r out 0
       ∙ ap (λ (k : ℕ). sets out 0 (records_of list parts k)) (sym (add-one n))
 
-  pub stored_all : (out o : List ℕ) (n : ℕ) → o ≡ sets out 0 (records_of list parts n) → n ≡ length list → o ≡ sets out 0 (records_of list parts (length list))
-  stored_all out o n e h = e ∙ ap (λ (k : ℕ). sets out 0 (records_of list parts k)) h
-
--- ---- the answers
 pub alike : (parts list : List ℕ) → not (eqb (length parts) (length list)) ≡ false → length parts ≡ length list
 alike parts list e = eqb-true (length parts) (length list) (not-false (eqb (length parts) (length list)) e)
-
-module _ (list parts out : List ℕ) where
-  -- an answer and the bytes that it leaves
-  abbrev pub Written : Result ℕ Refusal → List ℕ → Type 0
-  Written a o = (a ≡ write_answer list parts (length out)) × (o ≡ bytes_written list parts out)
-
-  refused : (r : Refusal) → write_answer list parts (length out) ≡ Err r → Written (Err r) out
-  unfolding bytes_written
-  refused r e = (sym e, sym (rw e))
-
-  module _ (place : ℕ) (first : place ≡ bad_place list) where
-    pub row_3 : (eqb (length list) 0 || ltb place (length list)) ≡ true → Written (Err (refusal.Components place)) out
-    unfolding write_answer bad_list
-    row_3 t = refused (refusal.Components place) (rw (← first, t))
-
-    module _ (known : (eqb (length list) 0 || ltb place (length list)) ≡ false) where
-      pub row_4 : not (eqb (length parts) (length list)) ≡ true → Written (Err (refusal.Fractions (length list))) out
-      unfolding write_answer bad_list
-      row_4 t = refused (refusal.Fractions (length list)) (rw (← first, known, t))
-
-      module _ (like : not (eqb (length parts) (length list)) ≡ false) (bad : Bool) (told : bad ≡ bad_total parts) where
-        pub number_29 : bad ≡ true → Written (Err refusal.Total) out
-        unfolding write_answer bad_list
-        number_29 t = refused refusal.Total (rw (← first, known, like, ← told, t))
-
-        module _ (total : bad ≡ false) where
-          pub row_24 : length out < 6 * length list → Written (Err (refusal.TooShort (6 * length list))) out
-          unfolding write_answer bad_list
-          row_24 h = refused (refusal.TooShort (6 * length list)) (rw (← first, known, like, ← told, total, lt-ltb (length out) (6 * length list) h))
-
-          answered : 6 * length list ≤ length out → write_answer list parts (length out) ≡ Ok (6 * length list)
-          unfolding write_answer bad_list
-          answered h = rw (← first, known, like, ← told, total, le-ltb (length out) (6 * length list) h)
-
-          pub accepted : (o : List ℕ) → 6 * length list ≤ length out → o ≡ sets out 0 (records_of list parts (length list)) → Written (Ok (6 * length list)) o
-          unfolding bytes_written
-          accepted o h e = (sym (answered h), e ∙ sym (rw (answered h)))

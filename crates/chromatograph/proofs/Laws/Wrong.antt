@@ -3,55 +3,18 @@ use mathlib.Core.Path.{◌≡◌, refl, sym}
 use mathlib.Core.Bool.{Bool, true, false}
 use mathlib.Core.List.{List}
 use mathlib.Core.Logic.{inl, inr}
-use Prim.Native.Nat.{ℕ, zero, suc, ◌+◌, ◌*◌, ◌/◌, ◌≤◌, ◌<◌}
+use Prim.Native.Nat.{ℕ, ◌*◌, ◌/◌, ◌≤◌, ◌<◌}
 use native.Mathlib.Nat.{eq-or-lt_of_le}
 use native.Mathlib.Omega.{arith}
 use borrow.Author.Tests.{le-ltb, lt-ltb, ltb-true, ltb-false}
 use lib.Dec.{ltb}
 use lib.ListN.{length}
-use Rattle.numerics.specs.Double.{pick}
 use Rattle.gerg_model.specs.MixtureCheck.{first_place}
-use Rattle.gerg_model.proofs.Laws.First.{first_passed, first_at_most}
+use Rattle.gerg_model.proofs.Laws.First.{first_is, first_before, first_holds, first_passed, first_at_most}
 use Rattle.packed_decimal.specs.Record.{wrong_record}
 use Rattle.packed_decimal.specs.Records.{offset_of, begun, records, wrong_offset}
 use Rattle.chromatograph.specs.Promised.{FirstWrong}
 use Rattle.packed_decimal.proofs.Laws.Record.{not_cut}
-
--- where the test holds of no place, the first place is past them all
-pub none_first : (bad : ℕ → Bool) (n k : ℕ) → ((d : ℕ) → d < n → bad (k + d) ≡ false) → first_place bad n k ≡ k + n
-unfolding first_place
-none_first bad zero k h = omega arith
-none_first bad (suc n) k h =
-    let z : k + 0 ≡ k = omega arith in
-    let here : bad k ≡ false = rw z at (h 0 (omega arith)) in
-    let e : k + suc n ≡ k + 1 + n = omega arith in
-    rw (here, e) (none_first bad n (k + 1) (λ d l. let m : k + 1 + d ≡ k + suc d = omega arith in rw m (h (suc d) (omega arith))))
-
--- the test holds of the first place, and of none before it
-holds_from : (bad : ℕ → Bool) (n k : ℕ) → first_place bad n k < k + n → bad (first_place bad n k) ≡ true
-unfolding first_place
-holds_from bad zero k h = absurd (omega arith)
-holds_from bad (suc n) k h = go (bad k) refl (holds_from bad n (k + 1)) h
-  where
-    go : (b : Bool) → bad k ≡ b → (first_place bad n (k + 1) < k + 1 + n → bad (first_place bad n (k + 1)) ≡ true) → pick b k (first_place bad n (k + 1)) < k + suc n → bad (pick b k (first_place bad n (k + 1))) ≡ true
-    go true e later l = e
-    go false e later l = later (omega arith)
-
-first_holds : (bad : ℕ → Bool) (n : ℕ) → first_place bad n 0 < n → bad (first_place bad n 0) ≡ true
-first_holds bad n h = holds_from bad n 0 (omega arith)
-
-before_from : (bad : ℕ → Bool) (n k d : ℕ) → k + d < first_place bad n k → bad (k + d) ≡ false
-unfolding first_place
-before_from bad zero k d h = absurd (omega arith)
-before_from bad (suc n) k d h = go (bad k) refl (before_from bad n (k + 1)) h d refl
-  where
-    go : (b : Bool) → bad k ≡ b → ((i : ℕ) → k + 1 + i < first_place bad n (k + 1) → bad (k + 1 + i) ≡ false) → k + d < pick b k (first_place bad n (k + 1)) → (i : ℕ) → d ≡ i → bad (k + d) ≡ false
-    go true e later l i q = absurd (omega arith)
-    go false e later l zero q = let z : k + d ≡ k = omega arith in rw z e
-    go false e later l (suc i) q = let z : k + d ≡ k + 1 + i = omega arith in rw z (later i (omega arith))
-
-first_before : (bad : ℕ → Bool) (n j : ℕ) → j < first_place bad n 0 → bad j ≡ false
-first_before bad n j h = let z : 0 + j ≡ j = omega arith in rw z at (before_from bad n 0 j (omega arith))
 
 module _ (bytes : List ℕ) where
   abbrev wrong_at : ℕ → Bool
@@ -80,7 +43,7 @@ module _ (bytes : List ℕ) where
   unfolding wrong_offset
   passes e h =
       let n : begun bytes ≡ records bytes = omega arith in
-      let f = none_first wrong_at (begun bytes) 0 (λ d l. let z : 0 + d ≡ d = omega arith in rw z (h d (omega arith))) in
+      let f = first_is wrong_at (begun bytes) (begun bytes) (omega arith) (λ d l. h d (omega arith)) (λ l. absurd (omega arith)) in
       le-ltb (wrong_offset bytes) (length bytes) (omega arith)
 
   -- 28 refuses by the first wrong record, and wherever one is wrong

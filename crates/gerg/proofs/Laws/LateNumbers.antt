@@ -15,10 +15,11 @@ use Rattle.gerg_terms.specs.Terms.{components_of}
 use Rattle.gerg.specs.declared.GergState.{GergState}
 use Rattle.gerg.specs.declared.Range.{Range}
 use Rattle.gerg.specs.Helmholtz.{helmholtz_of, checked_of, within_range, all_finite}
-use Rattle.gerg_refusals.specs.Answer.{number_of}
+use Rattle.gerg_refusals.specs.Answer.{number_of, value_of}
 use Rattle.gerg_refusals.specs.Refusal as of_refusal
 use Rattle.gerg.specs.Evaluate.{evaluate_of, admitted_answer, admitted_of, unstable, pressure_out, pressure_of, finite_state, state_of}
-use Rattle.std.specs.Prelude.{Result, Ok, Err}
+use Rattle.std.specs.Prelude.{Result, Ok, Err, IfErr}
+use Rattle.std.proofs.lemmas.Result.{IfErr-weaker}
 use Rattle.gerg_refusals.specs.declared.Refusal.{Refusal}
 use Rattle.gerg_refusals.specs.declared.Refusal.TheVariants as refusal
 
@@ -33,38 +34,54 @@ late_none last = record { most = omega arith; late = λ h. absurd (h refl) }
 pub late_row : (last n : ℕ) → 5 < n → n ≤ last → Late last n
 late_row last n h k = record { most = k; late = λ z. h }
 
-pub late_wider : (less last n : ℕ) → less ≤ last → Late less n → Late last n
-late_wider less last n h k = let m = k.most in record { most = omega arith; late = k.late }
+-- a refusal of a row from 6 to `last`
+abbrev pub Numbered : ℕ → Refusal → Type 0
+Numbered last r = (5 < of_refusal.number_of r) × (of_refusal.number_of r ≤ last)
 
--- a refusal of rows 6 to 9
+-- and with no value
+abbrev pub Row : ℕ → Refusal → Type 0
+Row last r = (5 < of_refusal.number_of r) × (of_refusal.number_of r ≤ last) × (of_refusal.value_of r ≡ 0)
+
+-- the number and the value of an answer that such rows alone refuse
+module _ {A : Type 0} (last : ℕ) where
+  pub late_numbered : (x : Result A Refusal) → IfErr x (Numbered last) → Late last (number_of x)
+  late_numbered (Ok a) row = late_none last
+  late_numbered (Err r) row = late_row last _ row.0 row.1
+
+  pub late_rows : (x : Result A Refusal) → IfErr x (Row last) → Late last (number_of x)
+  late_rows x row = late_numbered x (IfErr-weaker x (Row last) (Numbered last) (λ r h. (h.0, h.1)) row)
+
+  pub value_0 : (x : Result A Refusal) → IfErr x (Row last) → value_of x ≡ 0
+  value_0 (Ok a) row = refl
+  value_0 (Err r) row = row.2
+
+-- an answer that rows 6 to 9 alone refuse
 abbrev pub Derived : Result GergDerivatives Refusal → Type 0
-Derived (Ok a) = Unit {0}
-Derived (Err r) = (5 < of_refusal.number_of r) × (of_refusal.number_of r ≤ 9)
+Derived h = IfErr h (Row 9)
 
 rows_6_to_9 : (p q r f : Bool) (a : GergDerivatives) →
     Derived (pick p (Err refusal.DensityNotFinite) (pick q (Err refusal.DensityNotPositive) (pick r (Err refusal.OutsideRange) (pick f (Ok a) (Err refusal.Derivative)))))
-rows_6_to_9 true q r f a = (omega arith, omega arith)
-rows_6_to_9 false true r f a = (omega arith, omega arith)
-rows_6_to_9 false false true f a = (omega arith, omega arith)
+rows_6_to_9 true q r f a = (omega arith, omega arith, refl)
+rows_6_to_9 false true r f a = (omega arith, omega arith, refl)
+rows_6_to_9 false false true f a = (omega arith, omega arith, refl)
 rows_6_to_9 false false false true a = tt
-rows_6_to_9 false false false false a = (omega arith, omega arith)
+rows_6_to_9 false false false false a = (omega arith, omega arith, refl)
 
--- and of rows 10 to 12 besides
+-- and rows 10 to 12 besides
 abbrev pub Evaluated : Result GergState Refusal → Type 0
-Evaluated (Ok s) = Unit {0}
-Evaluated (Err r) = (5 < of_refusal.number_of r) × (of_refusal.number_of r ≤ 12)
+Evaluated e = IfErr e (Row 12)
 
 rows_10_to_12 : (p q f : Bool) (s : GergState) → Evaluated (pick p (Err refusal.Unstable) (pick q (Err refusal.Pressure) (pick f (Ok s) (Err refusal.NotFinite))))
-rows_10_to_12 true q f s = (omega arith, omega arith)
-rows_10_to_12 false true f s = (omega arith, omega arith)
+rows_10_to_12 true q f s = (omega arith, omega arith, refl)
+rows_10_to_12 false true f s = (omega arith, omega arith, refl)
 rows_10_to_12 false false true s = tt
-rows_10_to_12 false false false s = (omega arith, omega arith)
+rows_10_to_12 false false false s = (omega arith, omega arith, refl)
 
 after : (temperature rho mass high : Float) (h : Result GergDerivatives Refusal) → Derived h → Evaluated (admitted_answer temperature rho mass high h)
 unfolding admitted_answer admitted_of
 after temperature rho mass high (Ok a) d =
     rows_10_to_12 (unstable a temperature) (pressure_out high (pressure_of a temperature rho)) (finite_state (state_of a temperature rho mass)) (state_of a temperature rho mass)
-after temperature rho mass high (Err r) d = let k = d.1 in (d.0, omega arith)
+after temperature rho mass high (Err r) d = let k = d.1 in (d.0, omega arith, d.2)
 
 module _ (t : Tables) (m : GergModel) (range : Range) (temperature rho : Float) where
   pub helmholtz_rows : Derived (helmholtz_of t m range temperature rho)
@@ -78,15 +95,7 @@ module _ (t : Tables) (m : GergModel) (range : Range) (temperature rho : Float) 
   evaluate_rows = after temperature rho m.molar_mass range.pressure_high (helmholtz_of t m range temperature rho) helmholtz_rows
 
   pub helmholtz_numbers : Late 9 (number_of (helmholtz_of t m range temperature rho))
-  helmholtz_numbers = go (helmholtz_of t m range temperature rho) helmholtz_rows
-    where
-      go : (h : Result GergDerivatives Refusal) → Derived h → Late 9 (number_of h)
-      go (Ok a) d = late_none 9
-      go (Err r) d = late_row 9 _ d.0 d.1
+  helmholtz_numbers = late_rows 9 (helmholtz_of t m range temperature rho) helmholtz_rows
 
   pub evaluate_numbers : Late 12 (number_of (evaluate_of t m range temperature rho))
-  evaluate_numbers = go (evaluate_of t m range temperature rho) evaluate_rows
-    where
-      go : (e : Result GergState Refusal) → Evaluated e → Late 12 (number_of e)
-      go (Ok s) d = late_none 12
-      go (Err r) d = late_row 12 _ d.0 d.1
+  evaluate_numbers = late_rows 12 (evaluate_of t m range temperature rho) evaluate_rows

@@ -2,7 +2,7 @@
 -- document 01 (`properties_of` and its kin), at `extended_range` about those of request 03. Assumes nothing.
 use mathlib.Core.Path.{◌≡◌, ap, ◌∙◌, subst}
 use mathlib.Core.List.{List}
-use Prim.Native.Nat.{ℕ}
+use Prim.Native.Nat.{ℕ, ◌<◌}
 use native.Mathlib.Omega.{arith}
 use lib.Dec.{T}
 use lib.IntN.{pos}
@@ -23,17 +23,8 @@ use Rattle.gerg_api.proofs.Promises.Searches as searches
 use Rattle.std.specs.Prelude.{Ok}
 
 -- an answer whose number is 0 is refused by none of rows 8, 11 and 14
-accepted_not : {k : ℕ} (n : ℕ) → k ≡ 0 → (n ≡ 0 → ⊥) → k ≡ n → ⊥
-accepted_not n a h e = h (let z : n ≡ 0 = cc in z)
-
-8_not : ◌≡◌ {A = ℕ} 8 0 → ⊥
-8_not e = omega arith
-
-11_not : ◌≡◌ {A = ℕ} 11 0 → ⊥
-11_not e = omega arith
-
-14_not : ◌≡◌ {A = ℕ} 14 0 → ⊥
-14_not e = omega arith
+accepted_not : {k : ℕ} (n : ℕ) → k ≡ 0 → 0 < n → k ≡ n → ⊥
+accepted_not n a h e = omega arith
 
 -- the two ranges, in K and Pa
 pub normal_ends : (normal_range.temperature_low ≡ of_int binary64 (pos 200)) × (normal_range.temperature_high ≡ of_int binary64 (pos 450)) × (normal_range.pressure_high ≡ 35_MPa)
@@ -55,7 +46,7 @@ module _ (bytes list : List ℕ) (fractions : List Float) where
         (s : GergState) → properties_of bytes list fractions temperature rho ≡ Ok s → properties_in bytes list fractions extended_range temperature rho ≡ Ok s
     properties_same_bits s e =
         let z = ap number_of e in
-        properties_extended (accepted_not 8 z 8_not) (accepted_not 11 z 11_not) ∙ e
+        properties_extended (accepted_not 8 z (omega arith)) (accepted_not 11 z (omega arith)) ∙ e
 
     module _ (out : List Float) where
       pub fugacity_extended :
@@ -74,7 +65,7 @@ module _ (bytes list : List ℕ) (fractions : List Float) where
           × (fugacity_written_in bytes list fractions extended_range temperature rho out ≡ fugacity_written bytes list fractions temperature rho out)
       fugacity_same_bits s e =
           let z = ap number_of e in
-          let p = fugacity_extended (accepted_not 8 z 8_not) (accepted_not 11 z 11_not) in
+          let p = fugacity_extended (accepted_not 8 z (omega arith)) (accepted_not 11 z (omega arith)) in
           (p.0 ∙ e, p.1)
 
   module _ (temperature target : Float) (o : Options) (doubles : Doubles o) where
@@ -93,7 +84,7 @@ module _ (bytes list : List ℕ) (fractions : List Float) where
         (r : DensityResult) → density_call bytes list fractions temperature target o ≡ Ok r → density_in bytes list fractions extended_range temperature target o ≡ Ok r
     density_same_bits r e =
         let z = ap number_of e in
-        (density_extended (accepted_not 8 z 8_not) (accepted_not 11 z 11_not) (accepted_not 14 z 14_not)).0 ∙ e
+        (density_extended (accepted_not 8 z (omega arith)) (accepted_not 11 z (omega arith)) (accepted_not 14 z (omega arith))).0 ∙ e
 
     -- "its state's pressure is in (0, 35 MPa]"
     pub accepted_35_MPa : (r : DensityResult) → density_call bytes list fractions temperature target o ≡ Ok r → T (lt +0 r.state.pressure_pa) × T (le r.state.pressure_pa 35_MPa)

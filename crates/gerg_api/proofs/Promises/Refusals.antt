@@ -33,10 +33,9 @@ use Rattle.gerg_refusals.specs.Refusal as of_refusal
 use Rattle.gerg_refusals.specs.declared.Refusal.{Refusal}
 use Rattle.gerg_refusals.proofs.Told.{never_0}
 use Rattle.gerg_refusals.proofs.Then.{accepted}
-use Rattle.gerg.specs.Evaluate.{evaluate_of}
-use Rattle.gerg.proofs.Laws.Numbers.{evaluate_at_most_12, evaluate_accepted, evaluate_no_value}
+use Rattle.gerg.proofs.Laws.Numbers.{evaluate_at_most_12, evaluate_no_value}
 use Rattle.gerg_answers.proofs.Laws as export
-use Rattle.gerg_calls.specs.Calls.{properties_in, fugacity_in, fugacity_after, density_in}
+use Rattle.gerg_calls.specs.Calls.{properties_in, fugacity_in, density_in}
 use Rattle.gerg_equilibrium.specs.Equilibrium.{roots_call, saturation_call}
 use Rattle.gerg_calls.proofs.Laws.After as laws
 use Rattle.gerg_calls.proofs.Laws.Carried.{properties_through, fugacity_through, density_through}
@@ -87,10 +86,6 @@ module _ (bytes list : List ℕ) (fractions : List Float) where
   row_late : {A : Type 0} (n : ℕ) → 5 < n → (r : Refusal) → mixed ≡ Err r → of_refusal.number_of r ≡ n → A
   row_late n h r e q = late bytes list fractions n h (ap number_of e ∙ q)
 
-  -- number 0 is no refusal's
-  unrefused : {A : Type 0} (r : Refusal) → mixed ≡ Err r → of_refusal.number_of r ≡ 0 → A
-  unrefused r e z = absurd (never_0 r z)
-
   -- ---- of each call: its number is one of the table up to the last row that it can meet; its value is below 2^32; so its code is number × 2^32 + value
   module _ (range : Range) (temperature rho : Float) where
     pub properties_number : number_of (properties_in bytes list fractions range temperature rho) ≤ 12
@@ -110,8 +105,7 @@ module _ (bytes list : List ℕ) (fractions : List Float) where
 
     -- "Every bad input is refused under a number of its own": 0 is no refusal's, it means a state
     pub properties_accepted : number_of (properties_in bytes list fractions range temperature rho) ≡ 0 → (s : GergState) × (properties_in bytes list fractions range temperature rho ≡ Ok s)
-    properties_accepted =
-        properties_through bytes list fractions (λ a. number_of a ≡ 0 → (s : GergState) × (a ≡ Ok s)) range temperature rho (λ r e. unrefused r e) (λ m e. evaluate_accepted t m.model range temperature rho)
+    properties_accepted = accepted (properties_in bytes list fractions range temperature rho)
 
     module _ (out : List Float) where
       pub fugacity_number : number_of (fugacity_in bytes list fractions range temperature rho out) ≤ 24
@@ -122,7 +116,7 @@ module _ (bytes list : List ℕ) (fractions : List Float) where
       pub fugacity_value : value_of (fugacity_in bytes list fractions range temperature rho out) < 2 ^ 32
       fugacity_value =
           fugacity_through bytes list fractions (λ a l. value_of a < 2 ^ 32) range temperature rho out row_value
-          (λ m e. omega (arith, few m e)) (λ m e. omega (arith, laws.fugacity_value t m.model m.gradients range temperature rho))
+          (λ m e. omega (arith, few m e)) (λ m e. omega (arith, laws.fugacity_no_value t m.model m.gradients range temperature rho))
 
       -- row 24: "Needed here: as many doubles as the list is long"
       pub fugacity_needed :
@@ -143,12 +137,7 @@ module _ (bytes list : List ℕ) (fractions : List Float) where
       -- "Every bad input is refused under a number of its own": 0 is no refusal's, it means a state; its coefficients are written (`Memory.fugacity_writes`)
       pub fugacity_accepted :
           number_of (fugacity_in bytes list fractions range temperature rho out) ≡ 0 → (s : GergState) × (fugacity_in bytes list fractions range temperature rho out ≡ Ok s)
-      fugacity_accepted =
-          fugacity_through bytes list fractions (λ a l. number_of a ≡ 0 → (s : GergState) × (a ≡ Ok s)) range temperature rho out
-          (λ r e. unrefused r e) (λ m e z. absurd (row_24 z)) (λ m e. accepted (fugacity_after t m.model m.gradients temperature rho (evaluate_of t m.model range temperature rho)))
-        where
-          row_24 : ◌≡◌ {A = ℕ} 24 0 → ⊥
-          row_24 z = omega arith
+      fugacity_accepted = accepted (fugacity_in bytes list fractions range temperature rho out)
 
   module _ (range : Range) (temperature target : Float) (o : Options) where
     pub density_number : number_of (density_in bytes list fractions range temperature target o) ≤ 19
@@ -167,9 +156,7 @@ module _ (bytes list : List ℕ) (fractions : List Float) where
 
     -- "Every bad input is refused under a number of its own": 0 is no refusal's, it means an accepted density
     pub density_accepted : number_of (density_in bytes list fractions range temperature target o) ≡ 0 → (r : DensityResult) × (density_in bytes list fractions range temperature target o ≡ Ok r)
-    density_accepted =
-        density_through bytes list fractions (λ a l. number_of a ≡ 0 → (r : DensityResult) × (a ≡ Ok r)) range temperature target o
-        (λ r e. unrefused r e) (λ m e. numbers.density_accepted t m.model range temperature target o)
+    density_accepted = accepted (density_in bytes list fractions range temperature target o)
 
   module _ (temperature pressure : Float) (out : List Float) where
     pub roots_number : number_of (roots_call bytes list fractions temperature pressure out) ≤ 24
@@ -197,9 +184,7 @@ module _ (bytes list : List ℕ) (fractions : List Float) where
 
     -- "Every bad input is refused under a number of its own": 0 is no refusal's, it means roots
     pub roots_accepted : number_of (roots_call bytes list fractions temperature pressure out) ≡ 0 → (n : ℕ) × (roots_call bytes list fractions temperature pressure out ≡ Ok n)
-    roots_accepted =
-        roots_through bytes list fractions (λ a l. number_of a ≡ 0 → (n : ℕ) × (a ≡ Ok n)) temperature pressure out
-        (λ r e. unrefused r e) (λ m e. scan.accepted_roots t m.model m.gradients normal_range temperature pressure (length out))
+    roots_accepted = accepted (roots_call bytes list fractions temperature pressure out)
 
   module _ (pressure lo hi : Float) (limit : ℕ) where
     pub saturation_number : number_of (saturation_call bytes list fractions pressure lo hi limit) ≤ 26
@@ -225,4 +210,4 @@ module _ (bytes list : List ℕ) (fractions : List Float) where
         ((s : PureSaturation) × (saturation_call bytes list fractions pressure lo hi limit ≡ Ok (Some s))) ⊎ (saturation_call bytes list fractions pressure lo hi limit ≡ Ok None)
     saturation_accepted =
         saturation_through bytes list fractions (λ a l. number_of a ≡ 0 → ((s : PureSaturation) × (a ≡ Ok (Some s))) ⊎ (a ≡ Ok None)) pressure lo hi limit
-        (λ r e. unrefused r e) (λ m e. halving.accepted t m.model m.gradients normal_range pressure lo hi limit)
+        (λ r e z. absurd (never_0 r z)) (λ m e. halving.accepted t m.model m.gradients normal_range pressure lo hi limit)

@@ -1,5 +1,5 @@
 -- What follows rows 1 to 5: numbers, values and lent memory of the calls. Assumes nothing.
-use mathlib.Core.Path.{◌≡◌, refl, subst}
+use mathlib.Core.Path.{◌≡◌, refl, ◌∙◌, subst}
 use mathlib.Core.List.{List}
 use Prim.Native.Nat.{ℕ, ◌≤◌}
 use native.Mathlib.Omega.{arith}
@@ -66,14 +66,18 @@ module _ (t : Tables) (m : GergModel) (gradients : List (List Float)) (range : R
       go s (Ok u) h = omega arith
       go s (Err r) h = h
 
-  pub fugacity_value : value_of (fugacity_after t m gradients temperature rho e) ≡ 0
-  fugacity_value =
-      after_holds (λ a. value_of a ≡ 0) e (λ r q. subst (λ (a : Result GergState Refusal). value_of a ≡ 0) q (evaluate_no_value t m range temperature rho))
-      (λ s q c h. go s c (subst (λ (c : Result (Unit {0}) Refusal). value_of c ≡ 0) h (numbers.fugacity_value_0 t m gradients s temperature rho)))
+  -- its value is that of the state's answer: coefficients are refused with none
+  pub fugacity_value : (a : Result GergState Refusal) → value_of (fugacity_after t m gradients temperature rho a) ≡ value_of a
+  unfolding fugacity_after
+  fugacity_value (Ok s) = go (fugacity_of t m gradients s temperature rho) (numbers.fugacity_value_0 t m gradients s temperature rho)
     where
-      go : (s : GergState) (c : Result (Unit {0}) Refusal) → value_of c ≡ 0 → value_of (and_then c (λ passed. Ok s)) ≡ 0
-      go s (Ok u) h = refl
-      go s (Err r) h = h
+      go : (c : Result (Unit {0}) Refusal) → value_of c ≡ 0 → value_of (and_then c (λ passed. Ok s)) ≡ 0
+      go (Ok u) h = refl
+      go (Err r) h = h
+  fugacity_value (Err r) = refl
+
+  pub fugacity_no_value : value_of (fugacity_after t m gradients temperature rho e) ≡ 0
+  fugacity_no_value = fugacity_value e ∙ evaluate_no_value t m range temperature rho
 
   -- a refused state or refused coefficients leave the lent memory
   pub fugacity_memory_lem : (out : List Float) (a : Result GergState Refusal) → (number_of (fugacity_after t m gradients temperature rho a) ≡ 0 → ⊥) → memory_after t m gradients temperature rho out a ≡ out

@@ -1,8 +1,8 @@
 -- `properties`, `fugacity` and `density` in a range and in one that the range is inside of: the same answers, but for rows 8, 11 and 14. Assumes nothing.
-use mathlib.Core.Path.{◌≡◌, refl, sym}
+use mathlib.Core.Path.{◌≡◌, refl}
 use mathlib.Core.Bool.{Bool, true, false}
 use mathlib.Core.List.{List, []}
-use Prim.Native.Nat.{ℕ}
+use Prim.Native.Nat.{ℕ, ◌<◌}
 use native.Mathlib.Omega.{arith}
 use lib.Ieee.{Float}
 use Rattle.std.specs.Prelude.{Result, Ok, Err}
@@ -47,16 +47,10 @@ module _ (a b : Range) (i : Inside a b) (bytes list : List ℕ) (fractions : Lis
         go (Err r) n8 n11 = refl
 
     -- a state's refusal is that of its coefficients
-    coefficients_number : (m : Mixed) (n : ℕ) (h : Result GergState Refusal) → (n ≡ 0 → ⊥) → number_of h ≡ n → number_of (calls.fugacity_after t m.model m.gradients temperature rho h) ≡ n
+    coefficients_number : (m : Mixed) (n : ℕ) (h : Result GergState Refusal) → 0 < n → number_of h ≡ n → number_of (calls.fugacity_after t m.model m.gradients temperature rho h) ≡ n
     unfolding calls.fugacity_after
-    coefficients_number m n (Ok s) z q = absurd (z (sym q))
+    coefficients_number m n (Ok s) z q = absurd (omega arith)
     coefficients_number m n (Err r) z q = q
-
-    eight : ◌≡◌ {A = ℕ} 8 0 → ⊥
-    eight z = omega arith
-
-    eleven : ◌≡◌ {A = ℕ} 11 0 → ⊥
-    eleven z = omega arith
 
     module _ (out : List Float) where
       -- past row 24, where the state is the same
@@ -79,7 +73,7 @@ module _ (a b : Range) (i : Inside a b) (bytes list : List ℕ) (fractions : Lis
           short_or m true n8 n11 = same (Err (refusal.TooShort m.model.components)) out
           short_or m false n8 n11 =
               let e = evaluate_of t m.model a temperature rho in
-              rw (evaluate_inside a b i t m.model temperature rho (λ h. n8 (coefficients_number m 8 e eight h)) (λ h. n11 (coefficients_number m 11 e eleven h)))
+              rw (evaluate_inside a b i t m.model temperature rho (λ h. n8 (coefficients_number m 8 e (omega arith) h)) (λ h. n11 (coefficients_number m 11 e (omega arith) h)))
               (same (calls.fugacity_after t m.model m.gradients temperature rho e) (calls.memory_after t m.model m.gradients temperature rho out e))
 
           go :

@@ -15,7 +15,7 @@ use Rattle.gerg.proofs.Laws.Inside.{Inside, between_ends, helmholtz_same, outsid
 use Rattle.gerg_search.specs.Checks.{options_refused, target_refused}
 use Rattle.gerg_search.specs.Run.{outcome_of, trials_of}
 use Rattle.gerg_search.specs.States.{Doubles}
-use Rattle.gerg_search.specs.declared.Bracket.{Bracket}
+use Rattle.interval.specs.declared.Interval.{Interval}
 use Rattle.gerg_search.specs.declared.Options.{Options}
 use Rattle.gerg_search.specs.Sample.{Outcome}
 use Rattle.gerg_search.proofs.Laws.Start.{begun, target_within}
@@ -90,7 +90,7 @@ module _ (a b : Range) (i : Inside a b) (t : Tables) (m : GergModel) (temperatur
     unfolding density_of finished_of checked_of
     density_inside n11 = ap (finished_of t m b temperature target o) search_inside ∙ go (search_of t m a temperature target o) n8 n11
       where
-        refused : (k : ℕ) (last : Bracket) (n : ℕ) (e : Result GergState Refusal) → (n ≡ 0 → ⊥) → number_of e ≡ n → number_of (checked_of target o k last e) ≡ n
+        refused : (k : ℕ) (last : Interval) (n : ℕ) (e : Result GergState Refusal) → (n ≡ 0 → ⊥) → number_of e ≡ n → number_of (checked_of target o k last e) ≡ n
         refused k last n (Ok s) z h = absurd (z (sym h))
         refused k last n (Err j) z h = h
 

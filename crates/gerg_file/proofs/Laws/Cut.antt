@@ -8,6 +8,7 @@ use borrow.Author.Tests.{le-leb, ne_eqb}
 use lib.Dec.{leb}
 use lib.ListN.{length, take}
 use lib.Seq.{get_or-take, length-take-le}
+use Rattle.gerg_refusals.specs.Answer.{and_then}
 use Rattle.gerg_file.specs.File.{Walk}
 use Rattle.std.specs.Prelude.{Ok, Err}
 use Rattle.gerg_refusals.specs.declared.Refusal.{Refusal}
@@ -16,7 +17,7 @@ use Rattle.gerg_file.proofs.Filed.{Filed, departures_filed, end_filed}
 use Rattle.gerg_refusals.specs.Refusal.{value_of}
 use Rattle.gerg_file.specs.Kinds as Kinds
 use Rattle.gerg_file.specs.Bytes.{byte, term_count}
-use Rattle.gerg_file.specs.File.{follow, place, chain, counted, numbered, group, component_step, term_row, pair_row, function_step, departure_row, same_at, revision, functions, after_revision, after_components, after_terms, after_pairs, function_count, after_functions, after_departures, at_end, verdict, file_of}
+use Rattle.gerg_file.specs.File.{place, chain, counted, numbered, group, component_step, term_row, pair_row, function_step, departure_row, same_at, revision, functions, after_revision, after_components, after_terms, after_pairs, function_count, after_functions, after_departures, at_end, verdict, file_of}
 use Rattle.gerg_file.proofs.WellFormed.{count_at_most}
 use Rattle.gerg_file.proofs.Reach.{room, room_of, room_of_pairs, numbered_place, terms_limited, departures_limited, component_place, term_place, pair_place, function_place, departure_place, revision_place, components_place, terms_place, pairs_place, functions_place, departures_place, end_place}
 
@@ -28,23 +29,23 @@ verdict_bad s (Ok p) r e = absurd (let z : ◌≡◌ {A = ℕ} 0 1 = cc in omega
 
 pub malformed_is : (s : List ℕ) (r : Refusal) → file_of s ≡ Err r → r ≡ File (value_of r)
 unfolding file_of
-malformed_is s r e = end_filed s r (verdict_bad s (follow (after_departures s) (at_end s)) r e)
+malformed_is s r e = end_filed s r (verdict_bad s (and_then (after_departures s) (at_end s)) r e)
 
 -- "offset of that record, or of the first byte over"
 pub malformed_at_most : (s : List ℕ) (at : ℕ) → file_of s ≡ Err (File at) → at ≤ 28377
 unfolding file_of
 malformed_at_most s at e =
-    let q : place (follow (after_departures s) (at_end s)) ≡ at = ap place (verdict_bad s (follow (after_departures s) (at_end s)) (File at) e) in
+    let q : place (and_then (after_departures s) (at_end s)) ≡ at = ap place (verdict_bad s (and_then (after_departures s) (at_end s)) (File at) e) in
     let r = end_place s in
     omega arith
 
 -- ---- walks over two files that agree where the walks look
-step_same : (w : Walk) (f f' : ℕ → Walk) → ((p : ℕ) → w ≡ Ok p → f p ≡ f' p) → follow w f ≡ follow w f'
+step_same : (w : Walk) (f f' : ℕ → Walk) → ((p : ℕ) → w ≡ Ok p → f p ≡ f' p) → and_then w f ≡ and_then w f'
 step_same (Ok p) f f' g = g p refl
 step_same (Err r) f f' g = refl
 
-follow_same : (w w' : Walk) (f f' : ℕ → Walk) → w ≡ w' → ((p : ℕ) → w ≡ Ok p → f p ≡ f' p) → follow w f ≡ follow w' f'
-follow_same w w' f f' e g = step_same w f f' g ∙ ap (λ (w : Walk). follow w f') e
+follow_same : (w w' : Walk) (f f' : ℕ → Walk) → w ≡ w' → ((p : ℕ) → w ≡ Ok p → f p ≡ f' p) → and_then w f ≡ and_then w' f'
+follow_same w w' f f' e g = step_same w f f' g ∙ ap (λ (w : Walk). and_then w f') e
 
 reached : (w : Walk) (p a : ℕ) → w ≡ Ok p → place w ≤ a → p ≤ a
 reached w p a e h = let q : place w ≡ p = ap place e in omega arith
@@ -69,7 +70,7 @@ equal_same step step' c last n bound each k i at l h f =
     let q = room_of c k i in chain_same step step' (λ h. c) last n bound each k i at l h (omega arith)
 
 -- the walk of a file that is too long ends with a refusal
-over : (w : Walk) (s : List ℕ) → Filed w → place w < length s → follow w (at_end s) ≡ Err (File (place w))
+over : (w : Walk) (s : List ℕ) → Filed w → place w < length s → and_then w (at_end s) ≡ Err (File (place w))
 over (Ok p) s f h = let e = ne_eqb p (length s) (λ q. omega arith) in rw e
 over (Err r) s f h = ap Err (f r refl)
 

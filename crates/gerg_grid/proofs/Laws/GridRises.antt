@@ -1,8 +1,8 @@
 -- The grid's points are densities, and each is greater than the one before. Assumes nothing.
-use mathlib.Core.Path.{◌≡◌, refl, sym, ◌∙◌, subst}
-use mathlib.Core.Bool.{Bool, true, false, false≢true}
+use mathlib.Core.Path.{◌≡◌, refl, sym, ap, ◌∙◌, subst}
+use mathlib.Core.Bool.{Bool, true, false, not, false≢true, true≢false}
 use mathlib.Core.List.{List, [], ◌∷◌, ◌++◌}
-use Prim.Native.Nat.{ℕ, zero, suc, ◌+◌, ◌-◌, ◌*◌, ◌^◌, ◌≤◌, ◌<◌}
+use Prim.Native.Nat.{ℕ, zero, suc, ◌-◌, ◌*◌, ◌^◌, ◌≤◌, ◌<◌}
 use native.Mathlib.Nat.{le_trans, le_refl, le_of_lt, lt_of_not-le}
 use native.Mathlib.Omega.{arith}
 use lib.Dec.{T, ltb, lit≤}
@@ -10,13 +10,15 @@ use lib.Ieee.{Float, nan, binary64, fits, lt, le, eq, of_bits, of_int}
 use lib.Ieee.Fits.{add-fits, mul-fits}
 use lib.Ieee.Positive.{between}
 use lib.ListN.{length, get_or, length-append}
+use Rattle.std.specs.List.Sorted.{IsPartitionedBy}
 use Rattle.numerics.specs.Double.{◌⊖◌, ◌⊗◌, ◌⊘◌, bits, pick}
 use Rattle.numerics.specs.Iterate.{iter}
+use Rattle.numerics.specs.Tests.{is_true}
 use Rattle.elementary_exp.specs.Exp.{exp_of}
 use Rattle.elementary_ln.specs.Ln.{ln_of}
 use Rattle.numerics.specs.Spacing.{unit, count, Good, lt→count, count→lt, le→count}
 use Rattle.gerg_grid.specs.Grid.{lowest, highest, logarithmic_point, even_point, clamped, point_at, inserted, turned, greatest_first, sorted_points, same_as_last, kept, grid_of}
-use Rattle.gerg_grid.proofs.Laws.Insertion.{length_greatest}
+use Rattle.gerg_grid.proofs.Laws.Insertion.{sorts_length}
 use Rattle.gerg_grid.proofs.Laws.Rising.{Density, Rising, rising_none, rising_more, last, last_more, strictly, unlike_count}
 
 -- ---- the ends
@@ -85,33 +87,51 @@ unfolding turned
 turned_climbs n [] m none c = lower 0 n m (omega arith) c
 turned_climbs n (x ∷ l) m (more d h r) c = turned_climbs (count x) l (x ∷ m) r (more d (le_refl (count x)) (lower (count x) n m h c))
 
-length_turned : (l m : List Float) → length (turned l m) ≡ length l + length m
-unfolding turned
-length_turned [] m = omega arith
-length_turned (x ∷ l) m = length_turned l (x ∷ m) ∙ omega arith
+climbs : (n : ℕ) → Climbs 0 (turned (greatest_first n) [])
+climbs n = turned_climbs (unit * 2 ^ 15) (greatest_first n) [] (greatest_falls n) none
 
 sorted_climbs : Climbs 0 sorted_points
 unfolding sorted_points
-sorted_climbs = turned_climbs (unit * 2 ^ 15) (greatest_first 386) [] (greatest_falls 386) none
+sorted_climbs = climbs 386
 
-length_sorted : length sorted_points ≡ 386
+pub length_sorted : length sorted_points ≡ 386
 unfolding sorted_points
-length_sorted = length_turned (greatest_first 386) [] ∙ omega (arith, length_greatest 386)
+length_sorted = sorts_length 386 (turned (greatest_first 386) []) refl
 
 -- by index
-climbs_each : (n : ℕ) (l : List Float) → Climbs n l → (i : ℕ) → i < length l → Density (get_or l i nan) × (n ≤ count (get_or l i nan))
-climbs_each n [] none i h = absurd (omega arith)
-climbs_each n (x ∷ l) (more d k r) zero h = (d, k)
-climbs_each n (x ∷ l) (more d k r) (suc i) h =
-    let e = climbs_each (count x) l r i (omega arith) in
+climbs_each : (n : ℕ) (l : List Float) (d : Float) → Climbs n l → (i : ℕ) → i < length l → Density (get_or l i d) × (n ≤ count (get_or l i d))
+climbs_each n [] d none i h = absurd (omega arith)
+climbs_each n (x ∷ l) d (more a k r) zero h = (a, k)
+climbs_each n (x ∷ l) d (more a k r) (suc i) h =
+    let e = climbs_each (count x) l d r i (omega arith) in
     (e.0, le_trans k e.1)
 
-climbs_order : (n : ℕ) (l : List Float) → Climbs n l → (i j : ℕ) → i ≤ j → j < length l → count (get_or l i nan) ≤ count (get_or l j nan)
-climbs_order n [] none i j h k = absurd (omega arith)
-climbs_order n (x ∷ l) (more d b r) zero zero h k = le_refl (count x)
-climbs_order n (x ∷ l) (more d b r) zero (suc j) h k = (climbs_each (count x) l r j (omega arith)).1
-climbs_order n (x ∷ l) (more d b r) (suc i) zero h k = absurd (omega arith)
-climbs_order n (x ∷ l) (more d b r) (suc i) (suc j) h k = climbs_order (count x) l r i j (omega arith) (omega arith)
+climbs_order : (n : ℕ) (l : List Float) (d : Float) → Climbs n l → (i j : ℕ) → i ≤ j → j < length l → count (get_or l i d) ≤ count (get_or l j d)
+climbs_order n [] d none i j h k = absurd (omega arith)
+climbs_order n (x ∷ l) d (more a b r) zero zero h k = le_refl (count x)
+climbs_order n (x ∷ l) d (more a b r) zero (suc j) h k = (climbs_each (count x) l d r j (omega arith)).1
+climbs_order n (x ∷ l) d (more a b r) (suc i) zero h k = absurd (omega arith)
+climbs_order n (x ∷ l) d (more a b r) (suc i) (suc j) h k = climbs_order (count x) l d r i j (omega arith) (omega arith)
+
+-- v being point k, none of the sorted points that is not above v comes after one that is
+pub parted : (n k : ℕ) (v : Float) (s : List Float) → v ≡ point_at k → s ≡ turned (greatest_first n) [] → IsPartitionedBy (λ u. not (lt v u)) s
+parted n k v s q f i j d h l p = go (lt v (get_or s i d)) refl
+  where
+    good : Good v
+    good = rw q (point_density k).good
+
+    rises : Climbs 0 s
+    rises = rw f (climbs n)
+
+    under : lt v (get_or s i d) ≡ true → lt v (get_or s j d) ≡ true
+    under e =
+        let x = (climbs_each 0 s d rises i (omega arith)).0.good in
+        let y = (climbs_each 0 s d rises j l).0.good in
+        is_true (lt v (get_or s j d)) (count→lt v (get_or s j d) good y (le_trans (lt→count v (get_or s i d) good x (subst T (sym e) tt)) (climbs_order 0 s d rises i j h l)))
+
+    go : (b : Bool) → lt v (get_or s i d) ≡ b → not (lt v (get_or s i d)) ≡ true
+    go true e = absurd (true≢false (sym p ∙ ap not (under e)))
+    go false e = ap not e
 
 -- ---- equals dropped
 abbrev kept_of : ℕ → List Float
@@ -133,14 +153,14 @@ unfolding kept same_as_last
 strict_step k l h s = go (eq (last l) (get_or sorted_points k nan)) refl
   where
     dense : Density (get_or sorted_points k nan)
-    dense = (climbs_each 0 sorted_points sorted_climbs k (omega (arith, length_sorted))).0
+    dense = (climbs_each 0 sorted_points nan sorted_climbs k (omega (arith, length_sorted))).0
 
     go : (b : Bool) → eq (last l) (get_or sorted_points k nan) ≡ b → Strict (suc k) (pick b l (l ++ (get_or sorted_points k nan ∷ [])))
     go true e = record { rises = s.rises; some = λ p. filled l (get_or sorted_points k nan) e; upto = λ j a b c. s.upto j (omega arith) b c }
     go false e = record {
       rises = rising_more l (get_or sorted_points k nan) s.rises dense (λ p. strictly (last l) (get_or sorted_points k nan) (s.upto k (le_refl k) h p) (unlike_count (last l) (get_or sorted_points k nan) (s.rises.each (length l - 1) (omega arith)).good dense.good e));
       some = λ p. omega (arith, length-append l (get_or sorted_points k nan ∷ []));
-      upto = λ j a b c. subst (λ (z : Float). count z ≤ count (get_or sorted_points j nan)) (sym (last_more l (get_or sorted_points k nan))) (climbs_order 0 sorted_points sorted_climbs k j (omega arith) (omega (arith, length_sorted)));
+      upto = λ j a b c. subst (λ (z : Float). count z ≤ count (get_or sorted_points j nan)) (sym (last_more l (get_or sorted_points k nan))) (climbs_order 0 sorted_points nan sorted_climbs k j (omega arith) (omega (arith, length_sorted)));
     }
 
 strict : (k : ℕ) → k ≤ 386 → Strict k (kept_of k)

@@ -11,9 +11,6 @@ use lib.Ieee.{Float}
 use Rattle.numerics.specs.Double.{pick}
 use Rattle.numerics.specs.Iterate.{iter, range}
 
-less : (k n : ℕ) → k < suc n → (k ≡ n → ⊥) → k < n
-less k n e other = omega (arith, other)
-
 -- what each step keeps
 pub iter_keeps : {A : Type 0} (step : ℕ → A → A) (P : A → Type 0) (bound : ℕ) → ((k : ℕ) → k < bound → (a : A) → P a → P (step k a)) →
     (n : ℕ) → n ≤ bound → (a : A) → P a → P (iter step n a)
@@ -33,7 +30,7 @@ iter_reaches step P Q bound k₀ all make keep (suc n) h le a q =
     go : (b : Bool) → eqb k₀ n ≡ b → Q (iter step n a) → (k₀ < n → P (iter step n a)) → P (step n (iter step n a))
     go true e here before = let same = eqb-true k₀ n e in rw same at (make (iter step n a) here)
     go false e here before =
-        let earlier = less k₀ n h (eqb-false k₀ n e) in
+        let earlier : k₀ < n = omega (arith, eqb-false k₀ n e) in
         keep n earlier (omega arith) (iter step n a) (before earlier)
 
 pub range_keeps : {A : Type 0} (step : ℕ → A → A) (P : A → Type 0) (lo hi : ℕ) → ((j : ℕ) → lo ≤ j → j < hi → (a : A) → P a → P (step j a)) →

@@ -16,7 +16,7 @@ use Rattle.gerg_tables.specs.Tables.{Shaped, kpol, kexp, m_numb, kpolij, kexpij}
 use Rattle.gerg_reducing.specs.declared.GergModel.{GergModel}
 use Rattle.gerg_reducing.specs.Reduced.{absent, tau_of}
 use Rattle.gerg_isotherm.specs.Isotherm.{pure_cell, departure_cell, ideal_row, pure_row, departure_row, pair_row, component_rows, all_rows, zero_cells, isotherm_of}
-use Rattle.gerg_isotherm.proofs.Laws.SumRows.{Rows}
+use Rattle.gerg_isotherm.specs.Rows.{Rows}
 use Rattle.gerg_isotherm.proofs.Laws.Rows.{number_in}
 use Rattle.gerg_isotherm.proofs.Laws.Written.{Apart, below, above, Holds, Sized, sized, written_keeps, written_makes}
 use Rattle.gerg_isotherm.proofs.Laws.Kept.{iter_reaches, range_keeps, range_reaches, pick_either}

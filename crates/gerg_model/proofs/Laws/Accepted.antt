@@ -1,14 +1,16 @@
 -- What a list and fractions that passed have, and the model made of them. Assumes nothing.
 use mathlib.Core.Path.{◌≡◌, refl}
 use mathlib.Core.Bool.{Bool, true, false, not}
-use mathlib.Core.List.{List, [], ◌∷◌}
+use mathlib.Core.List.{List}
 use Prim.Native.Nat.{ℕ, zero, suc, ◌-◌, ◌≤◌, ◌<◌}
 use native.Mathlib.Omega.{arith}
-use borrow.Author.Tests.{ltb-false, leb-true, leb-false, eqb-false, eqb-true}
+use borrow.Author.Tests.{ltb-true, ltb-false, leb-true, leb-false, eqb-false, eqb-true}
 use lib.Dec.{leb, ltb, eqb}
 use lib.Ieee.{Float}
 use lib.ListN.{length, get_or, set, replicate}
-use Rattle.std.proofs.Common.{Result, Ok, Err}
+use Rattle.std.proofs.Common.{Result, Ok, Err, All}
+use Rattle.std.proofs.lemmas.List.{get_or_past}
+use Rattle.std.proofs.lemmas.List.Elements.{All-replicate, All-set}
 use Rattle.numerics.specs.Double.{pick}
 use Rattle.numerics.specs.Iterate.{iter}
 use Rattle.numerics.specs.Tests.{or_false}
@@ -37,11 +39,7 @@ module _ (list : List ℕ) (good : (k : ℕ) → k < length list → bad_number 
       let b = or_false _ _ a.0 in
       let d = or_false _ _ b.0 in
       let ne = eqb-false (get_or list k 0) 0 d.1 in
-      (leb-false 21 k d.0, omega (arith, positive (get_or list k 0) ne), ltb-false 21 (get_or list k 0) b.1)
-    where
-      positive : (n : ℕ) → (n ≡ 0 → ⊥) → 0 < n
-      positive zero ne = absurd (ne refl)
-      positive (suc n) ne = omega arith
+      (leb-false 21 k d.0, omega arith, ltb-false 21 (get_or list k 0) b.1)
 
   few_of : (t : Bool) → leb (length list) 21 ≡ t → length list ≤ 21
   few_of true e = leb-true (length list) 21 e
@@ -63,30 +61,26 @@ accepted list fractions e =
       paired = eqb-true (length fractions) (length list) tests.1;
     }
 
-zeros_at : (n i : ℕ) → ◌≡◌ {A = ℕ} (get_or (replicate n 0) i 0) 0
-zeros_at zero i = refl
-zeros_at (suc n) zero = refl
-zeros_at (suc n) (suc i) = zeros_at n i
-
-below_set : (l : List ℕ) (k v i : ℕ) → v < 21 → get_or l i 0 < 21 → get_or (set l k v) i 0 < 21
-below_set [] k v i hv h = h
-below_set (x ∷ xs) zero v zero hv h = hv
-below_set (x ∷ xs) zero v (suc i) hv h = h
-below_set (x ∷ xs) (suc k) v zero hv h = h
-below_set (x ∷ xs) (suc k) v (suc i) hv h = below_set xs k v i hv h
-
 module _ (list : List ℕ) (good : KnownList list) where
-  below_iter : (n : ℕ) → n ≤ length list → (i : ℕ) → get_or (iter (λ k a. set a k (get_or list k 0 - 1)) n (replicate 21 0)) i 0 < 21
+  below_iter : (n : ℕ) → n ≤ length list → All (λ (x : ℕ). x < 21) (iter (λ k a. set a k (get_or list k 0 - 1)) n (replicate 21 0))
   unfolding iter
-  below_iter zero h i = omega (arith, zeros_at 21 i)
-  below_iter (suc n) h i =
+  below_iter zero h = All-replicate (λ (x : ℕ). x < 21) 21 0 (omega arith)
+  below_iter (suc n) h =
       let b = good.known n (omega arith) in
-      below_set (iter (λ k a. set a k (get_or list k 0 - 1)) n (replicate 21 0)) n (get_or list n 0 - 1) i (omega arith) (below_iter n (omega arith) i)
+      All-set (λ (x : ℕ). x < 21) (iter (λ k a. set a k (get_or list k 0 - 1)) n (replicate 21 0)) n (get_or list n 0 - 1) (omega arith) (below_iter n (omega arith))
+
+-- past its end too
+below_any : (l : List ℕ) (i : ℕ) → All (λ (x : ℕ). x < 21) l → get_or l i 0 < 21
+below_any l i h = go (ltb i (length l)) refl
+  where
+    go : (b : Bool) → ltb i (length l) ≡ b → get_or l i 0 < 21
+    go true e = h i 0 (ltb-true i (length l) e)
+    go false e = omega (arith, get_or_past l i 0 (ltb-false i (length l) e))
 
 -- what the model of such a list has
 pub listed : (doubles : List Float) (list : List ℕ) (fractions : List Float) → Accepted list fractions → Listed (model_of doubles list fractions)
 unfolding model_of indices_of
-listed doubles list fractions good = record { few = good.listed.few; known = λ k h. below_iter list good.listed (length list) (omega arith) k }
+listed doubles list fractions good = record { few = good.listed.few; known = λ k h. below_any _ k (below_iter list good.listed (length list) (omega arith)) }
 
 -- as many components as the list is long
 pub as_listed : (doubles : List Float) (list : List ℕ) (fractions : List Float) → (model_of doubles list fractions).components ≡ length list

@@ -8,7 +8,8 @@ use borrow.Author.Tests.{ltb-true, ltb-false, leb-true, leb-false, eqb-true}
 use lib.Dec.{leb, ltb, eqb}
 use lib.Ieee.{Float}
 use lib.ListN.{length}
-use Rattle.std.proofs.Common.{Ok, Err}
+use Rattle.std.proofs.Common.{Result, Ok, Err, IfErr}
+use Rattle.std.proofs.lemmas.Result.{IfErr-at_err}
 use Rattle.numerics.specs.Double.{pick}
 use Rattle.gerg_refusals.specs.Answer.{number_of, value_of}
 use Rattle.gerg_refusals.specs.Refusal as of_refusal
@@ -18,39 +19,36 @@ use Rattle.gerg_model.specs.MixtureCheck.{first_place, bad_number, bad_fraction,
 use Rattle.gerg_model.proofs.Laws.First.{first_passed, first_at_most}
 use Rattle.gerg_model.proofs.Laws.Accepted.{known_list}
 
-rows_3_and_4 : (a b c d e : Bool) (place n fraction : ℕ) →
-    number_of (pick a (Err (Components 0)) (pick b (Err (Components place)) (pick (not c) (Err (Fractions n)) (pick d (Err (Fractions fraction)) (pick e (Ok (tt {0})) (Err (Fractions n))))))) ≤ 4
-rows_3_and_4 true b c d e place n fraction = omega arith
-rows_3_and_4 false true c d e place n fraction = omega arith
-rows_3_and_4 false false false d e place n fraction = omega arith
-rows_3_and_4 false false true true e place n fraction = omega arith
-rows_3_and_4 false false true false true place n fraction = omega arith
-rows_3_and_4 false false true false false place n fraction = omega arith
+-- of row 3 or row 4
+abbrev ThreeOrFour : Refusal → Type 0
+ThreeOrFour r = (3 ≤ of_refusal.number_of r) × (of_refusal.number_of r ≤ 4)
 
-pub mixture_at_most_4 : (list : List ℕ) (fractions : List Float) → number_of (check_of list fractions) ≤ 4
+rows_3_and_4 : (a b c d e : Bool) (place n fraction : ℕ) →
+    IfErr (pick a (Err (Components 0)) (pick b (Err (Components place)) (pick (not c) (Err (Fractions n)) (pick d (Err (Fractions fraction)) (pick e (Ok (tt {0})) (Err (Fractions n))))))) ThreeOrFour
+rows_3_and_4 true b c d e place n fraction = (omega arith, omega arith)
+rows_3_and_4 false true c d e place n fraction = (omega arith, omega arith)
+rows_3_and_4 false false false d e place n fraction = (omega arith, omega arith)
+rows_3_and_4 false false true true e place n fraction = (omega arith, omega arith)
+rows_3_and_4 false false true false true place n fraction = tt
+rows_3_and_4 false false true false false place n fraction = (omega arith, omega arith)
+
+mixture_rows : (list : List ℕ) (fractions : List Float) → IfErr (check_of list fractions) ThreeOrFour
 unfolding check_of
-mixture_at_most_4 list fractions =
+mixture_rows list fractions =
     let number = first_place (bad_number list) (length list) 0 in
     let fraction = first_place (bad_fraction fractions) (length fractions) 0 in
     rows_3_and_4 (eqb (length list) 0) (ltb number (length list)) (eqb (length fractions) (length list)) (ltb fraction (length fractions)) (adds_up fractions) number (length list) fraction
 
-refused_from_3 : (a b c d e : Bool) (place n fraction : ℕ) (r : Refusal) →
-    pick a (Err (Components 0)) (pick b (Err (Components place)) (pick (not c) (Err (Fractions n)) (pick d (Err (Fractions fraction)) (pick e (Ok (tt {0})) (Err (Fractions n)))))) ≡ Err r → 3 ≤ of_refusal.number_of r
-refused_from_3 true b c d e place n fraction r q = let z : Components 0 ≡ r = cc in rw (← z) (omega arith)
-refused_from_3 false true c d e place n fraction r q = let z : Components place ≡ r = cc in rw (← z) (omega arith)
-refused_from_3 false false false d e place n fraction r q = let z : Fractions n ≡ r = cc in rw (← z) (omega arith)
-refused_from_3 false false true true e place n fraction r q = let z : Fractions fraction ≡ r = cc in rw (← z) (omega arith)
-refused_from_3 false false true false true place n fraction r q = cc
-refused_from_3 false false true false false place n fraction r q = let z : Fractions n ≡ r = cc in rw (← z) (omega arith)
+pub mixture_at_most_4 : (list : List ℕ) (fractions : List Float) → number_of (check_of list fractions) ≤ 4
+mixture_at_most_4 list fractions = go (check_of list fractions) (mixture_rows list fractions)
+  where
+    go : (x : Result (Unit {0}) Refusal) → IfErr x ThreeOrFour → number_of x ≤ 4
+    go (Ok u) row = omega arith
+    go (Err r) row = row.1
 
 -- a refusal is one of rows 3 and 4
 pub mixture_refused : (list : List ℕ) (fractions : List Float) (r : Refusal) → check_of list fractions ≡ Err r → 3 ≤ of_refusal.number_of r
-unfolding check_of
-mixture_refused list fractions r q =
-    let place = first_place (bad_number list) (length list) 0 in
-    let fraction = first_place (bad_fraction fractions) (length fractions) 0 in
-    refused_from_3 (eqb (length list) 0) (ltb place (length list)) (eqb (length fractions) (length list)) (ltb fraction (length fractions)) (adds_up fractions)
-    place (length list) fraction r q
+mixture_refused list fractions r q = (IfErr-at_err ThreeOrFour q (mixture_rows list fractions)).0
 
 values : (a b c d e : Bool) (place n fraction : ℕ) → (b ≡ true → place ≤ 21) → (b ≡ false → n ≤ 21) → (b ≡ false → c ≡ true → d ≡ true → fraction ≤ 21) →
     value_of (pick a (Err (Components 0)) (pick b (Err (Components place)) (pick (not c) (Err (Fractions n)) (pick d (Err (Fractions fraction)) (pick e (Ok (tt {0})) (Err (Fractions n))))))) ≤ 21

@@ -15,8 +15,7 @@ use Rattle.gerg_reducing.specs.declared.GergModel.{GergModel}
 use Rattle.gerg.specs.declared.Range.{Range}
 use Rattle.gerg_saturation.specs.Checks.{saturation_refused}
 use Rattle.gerg_saturation.specs.Halvings.{search_of, trials_of}
-use Rattle.gerg_saturation.proofs.Laws.Reported as reported
-use Rattle.gerg_saturation.proofs.Laws.Reported.{Early, Row, Reports, search_row, early_row}
+use Rattle.gerg_saturation.proofs.Laws.Reported.{Row, LateReports, late_reports, search_row}
 use Rattle.gerg_ph.specs.Saturation.{verdict_at, interval_of, pure_saturation_of, saturation_trials}
 use Rattle.gerg_ph.proofs.Laws.LateNumbers.{verdict_early}
 
@@ -32,8 +31,8 @@ module _ (t : Tables) (m : GergModel) (gradients : List (List Float)) (range : R
       go true = record { late = omega arith; most = omega arith; row_26 = λ e. omega arith; others = λ n. refl; value = zero-le }
       go false = search_row (verdict_at t m gradients range pressure) (λ x. verdict_early t m gradients range pressure x) limit (interval_of lo hi)
 
-  pub reports : Reports (pure_saturation_of t m gradients range pressure lo hi limit) (length (saturation_trials t m gradients range pressure lo hi limit))
-  reports = reported.reports (pure_saturation_of t m gradients range pressure lo hi limit) (length (saturation_trials t m gradients range pressure lo hi limit)) row
+  pub reports : LateReports (pure_saturation_of t m gradients range pressure lo hi limit) (length (saturation_trials t m gradients range pressure lo hi limit))
+  reports = late_reports (pure_saturation_of t m gradients range pressure lo hi limit) (length (saturation_trials t m gradients range pressure lo hi limit)) row
 
   -- refused by no row before 6, which a chromatograph's list needs
   pub saturation_late : (number_of (pure_saturation_of t m gradients range pressure lo hi limit) ≡ 0 → ⊥) → 5 < number_of (pure_saturation_of t m gradients range pressure lo hi limit)

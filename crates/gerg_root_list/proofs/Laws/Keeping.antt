@@ -5,11 +5,12 @@ use Prim.Native.Nat.{ℕ, ◌+◌, ◌≤◌}
 use lib.Ieee.{Float}
 use lib.ListN.{length, get_or}
 use Rattle.std.specs.Prelude.{Ok, Err}
+use Rattle.std.proofs.lemmas.Result.{IfOk-at_ok}
 use Rattle.numerics.specs.Iterate.{iter, iter_begins, iter_turn, iter_done}
+use Rattle.gerg_refusals.specs.Answer.{and_then}
 use Rattle.gerg_refusals.specs.declared.Refusal.{Refusal}
-use Rattle.gerg_scan_steps.specs.Answers.{and_then}
 use Rattle.gerg_scan_steps.specs.declared.Scan.{Scan}
-use Rattle.gerg_scan_steps.proofs.Laws.Answers.{accepted, iter_rests}
+use Rattle.gerg_scan_steps.proofs.Laws.Answers.{iter_rests}
 use Rattle.gerg_root_list.specs.RootList as is
 use Rattle.gerg_root_list.specs.declared.Root.{Root}
 use Rattle.gerg_root_list.proofs.Laws.KeptFew.{keep_more}
@@ -17,7 +18,7 @@ use Rattle.gerg_root_list.proofs.Laws.KeptFew.{keep_more}
 -- what is kept of the first i
 module _ (root : Float → is.Outcome) (target : Float) (s : Scan) where
   abbrev pub kept : ℕ → is.Kept
-  kept i = iter (λ j. and_then (is.keep_step root target s.first_negative s.last_negative (get_or s.roots.items j is.no_point))) i (Ok [])
+  kept i = iter (λ j k. and_then k (is.keep_step root target s.first_negative s.last_negative (get_or s.roots.items j is.no_point))) i (Ok [])
 
   pub kept_first : (k : List Root) → k ≡ [] → Ok k ≡ kept 0
   kept_first k e = ap Ok e ∙ iter_begins _ _
@@ -26,7 +27,7 @@ module _ (root : Float → is.Outcome) (target : Float) (s : Scan) where
   kept_more i k t e n = iter_turn _ i _ e n
 
   pub kept_few : (i : ℕ) (k r : List Root) → Ok r ≡ is.keep_step root target s.first_negative s.last_negative (get_or s.roots.items i is.no_point) k → length r ≤ length k + 1
-  kept_few i k r e = accepted (λ q. length q ≤ length k + 1) _ (sym e) (keep_more root target s.first_negative s.last_negative (get_or s.roots.items i is.no_point) k)
+  kept_few i k r e = IfOk-at_ok (λ q. length q ≤ length k + 1) (sym e) (keep_more root target s.first_negative s.last_negative (get_or s.roots.items i is.no_point) k)
 
   pub kept_refused : (i : ℕ) (r : Refusal) → i ≤ length s.roots.items → Err r ≡ kept i → Err r ≡ is.kept_of root target s
   unfolding is.kept_of

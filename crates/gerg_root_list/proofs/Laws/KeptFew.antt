@@ -1,12 +1,13 @@
 -- At most as many roots are kept as a scan found. Assumes nothing.
 use mathlib.Core.Bool.{Bool, true, false, ◌&&◌}
 use mathlib.Core.List.{List, []}
-use Prim.Native.Nat.{ℕ, suc, ◌+◌, ◌≤◌}
+use Prim.Native.Nat.{ℕ, ◌+◌, ◌≤◌}
 use native.Mathlib.Nat.{le_trans}
 use native.Mathlib.Omega.{arith}
 use lib.Ieee.{Float, lt}
 use lib.ListN.{length, get_or}
 use Rattle.std.specs.Prelude.{Result, Ok, Err, IfOk}
+use Rattle.std.proofs.lemmas.Result.{IfOk-weaker}
 use Rattle.numerics.specs.Double.{pick}
 use Rattle.numerics.specs.Growing.{one_more, none_more}
 use Rattle.gerg_refusals.specs.declared.Refusal.{Refusal}
@@ -14,7 +15,7 @@ use Rattle.gerg_refusals.specs.declared.Refusal.TheVariants as refusal
 use Rattle.gerg_scan_steps.proofs.Laws.Answers.{steps_keep}
 use Rattle.gerg_scan_steps.specs.declared.Point.{Point}
 use Rattle.gerg_scan_steps.specs.declared.Scan.{Scan}
-use Rattle.gerg_root_list.specs.RootList.{Outcome, Kept, joined_by, limit_of, keep_step, no_point, kept_of, found_of}
+use Rattle.gerg_root_list.specs.RootList.{Outcome, joined_by, limit_of, keep_step, no_point, kept_of, found_of}
 use Rattle.gerg_root_list.specs.declared.Root.{Root}
 
 module _ (root : Float → Outcome) (target : Float) where
@@ -37,17 +38,9 @@ module _ (root : Float → Outcome) (target : Float) where
   unfolding kept_of
   kept_few s =
       steps_keep (λ i k. length k ≤ i) (λ r. Unit {0}) (λ i. keep_step root target s.first_negative s.last_negative (get_or s.roots.items i no_point)) (length s.roots.items) (Ok []) (omega arith)
-      (λ i k l h. more i k h (keep_step root target s.first_negative s.last_negative (get_or s.roots.items i no_point) k) (keep_more s.first_negative s.last_negative (get_or s.roots.items i no_point) k))
-    where
-      more : (i : ℕ) (k : List Root) → length k ≤ i → (x : Kept) → IfOk x (λ r. length r ≤ length k + 1) → IfOk x (λ r. length r ≤ suc i)
-      more i k h (Ok r) g = omega arith
-      more i k h (Err r) g = tt
+      (λ i k l h. IfOk-weaker (keep_step root target s.first_negative s.last_negative (get_or s.roots.items i no_point) k) _ _ (λ r g. omega arith) (keep_more s.first_negative s.last_negative (get_or s.roots.items i no_point) k))
 
   pub found_few : (n : ℕ) (s : Result Scan Refusal) → IfOk s (λ t. length t.roots.items ≤ n) → IfOk (found_of root target s) (λ k. length k ≤ n)
   unfolding found_of
-  found_few n (Ok s) h = go (kept_of root target s) (kept_few s)
-    where
-      go : (k : Kept) → IfOk k (λ r. length r ≤ length s.roots.items) → IfOk k (λ r. length r ≤ n)
-      go (Ok r) g = le_trans g h
-      go (Err r) g = tt
+  found_few n (Ok s) h = IfOk-weaker (kept_of root target s) _ _ (λ r g. le_trans g h) (kept_few s)
   found_few n (Err r) h = tt

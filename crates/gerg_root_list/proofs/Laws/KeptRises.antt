@@ -7,6 +7,7 @@ use native.Mathlib.Nat.{le_refl}
 use native.Mathlib.Omega.{arith}
 use lib.Ieee.{Float, nan, lt}
 use lib.ListN.{length, get_or}
+use Rattle.std.proofs.lemmas.Result.{IfOk-weaker}
 use Rattle.std.specs.Prelude.{Result, Ok, Err, IfOk}
 use Rattle.numerics.specs.Double.{pick}
 use Rattle.numerics.specs.Spacing.{count}
@@ -17,7 +18,7 @@ use Rattle.gerg_scan_steps.specs.Scan.{densities}
 use Rattle.gerg_scan_steps.specs.declared.Point.{Point}
 use Rattle.gerg_scan_steps.specs.declared.Scan.{Scan}
 use Rattle.gerg_scan_steps.proofs.Laws.Answers.{steps_keep}
-use Rattle.gerg_root_list.specs.RootList.{Outcome, Kept, joined_by, limit_of, keep_step, no_point, kept_of, found_of}
+use Rattle.gerg_root_list.specs.RootList.{Outcome, joined_by, limit_of, keep_step, no_point, kept_of, found_of}
 use Rattle.gerg_root_list.specs.declared.Root.{Root}
 use Rattle.gerg_root_list.proofs.Laws.RootList.{root_list}
 
@@ -80,14 +81,10 @@ module _ (give : Float → Outcome) (headed : Headed give) (target first final :
 kept_rises : (give : Float → Outcome) → Headed give → (target : Float) (s : Scan) → Rising (densities s.roots.items) → IfOk (kept_of give target s) (λ k. Rising (root_list k))
 unfolding kept_of
 kept_rises give headed target s r =
-    rise (kept_of give target s)
+    IfOk-weaker (kept_of give target s) (Above give headed target s.first_negative s.last_negative (densities s.roots.items) r (length s.roots.items)) _ (λ k a. a.rises)
     (steps_keep (Above give headed target s.first_negative s.last_negative (densities s.roots.items) r) (λ r. Unit {0}) (λ i. keep_step give target s.first_negative s.last_negative (get_or s.roots.items i no_point)) (length s.roots.items) (Ok [])
     (empty give headed target s.first_negative s.last_negative (densities s.roots.items) r)
     (λ i k l a. stepped give headed target s.first_negative s.last_negative (densities s.roots.items) r i (get_or s.roots.items i no_point) k (rw (length_is s.roots.items) l) (density_is s.roots.items i) a))
-  where
-    rise : (k : Kept) → IfOk k (Above give headed target s.first_negative s.last_negative (densities s.roots.items) r (length s.roots.items)) → IfOk k (λ k. Rising (root_list k))
-    rise (Ok k) a = a.rises
-    rise (Err n) a = tt
 
 pub found_rises : (give : Float → Outcome) → Headed give → (target : Float) (s : Result Scan Refusal) → IfOk s (λ t. Rising (densities t.roots.items)) → IfOk (found_of give target s) (λ k. Rising (root_list k))
 unfolding found_of

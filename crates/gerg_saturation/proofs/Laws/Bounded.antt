@@ -12,8 +12,9 @@ use Rattle.numerics.specs.Frac.{big}
 use Rattle.numerics.specs.Double.{pick}
 use Rattle.numerics.specs.Spacing.{unit, unit_pos, count}
 use Rattle.gerg_saturation.specs.Answer.{Tried}
-use Rattle.gerg_saturation.specs.Halvings.{middle_of, between_of, on_end, narrowed_of, onward, encloses, trials_from, trials_of}
-use Rattle.gerg_saturation.specs.declared.Interval.{Interval}
+use Rattle.interval.specs.Interval.{middle_of, narrowed_of, on_end}
+use Rattle.gerg_saturation.specs.Halvings.{between_of, onward, encloses, trials_from, trials_of}
+use Rattle.interval.specs.declared.Interval.{Interval}
 use Rattle.gerg_saturation.specs.declared.Verdict.TheVariants.{Accepted, Apart}
 use Rattle.gerg_saturation.proofs.Laws.Halved.{Within, width, inside, outside, wide, Halved, halved}
 

@@ -19,8 +19,9 @@ use Rattle.numerics.specs.Order.{less_numbers, positive_above}
 use Rattle.numerics.specs.Spacing.{unit, count, gap, Good, lt→count, count→lt, same}
 use Rattle.numerics.specs.SpacingRounded.{OneRounding, Ranged, rough}
 use Rattle.numerics.specs.Tests.{holds, is_true, clash, or_left, or_right, both_true}
-use Rattle.gerg_saturation.specs.Halvings.{middle_of, between_of, on_end, narrowed_of}
-use Rattle.gerg_saturation.specs.declared.Interval.{Interval}
+use Rattle.interval.specs.Interval.{middle_of, narrowed_of, on_end}
+use Rattle.gerg_saturation.specs.Halvings.{between_of}
+use Rattle.interval.specs.declared.Interval.{Interval}
 
 -- ---- the middle l + A of l and l + A + C, m being half the width w, which are rounded; s + 1 is 2 ^ 53
 lower_part : (s l A C w m u : ℕ) → l + A + C ≤ 350 * u → w ≤ 121 * u → 2 * m ≤ 122 * u → w * s ≤ (A + C) * suc s → 2 * m * s ≤ 1 * w * suc s → (l + A) * s ≤ (l + m) * suc s → 2 * (A * suc s) ≤ (A + C) * suc s + 943 * u

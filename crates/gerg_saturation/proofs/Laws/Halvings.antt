@@ -12,9 +12,10 @@ use Rattle.numerics.specs.Double.{pick}
 use Rattle.gerg_refusals.specs.declared.Refusal.{Refusal}
 use Rattle.gerg_refusals.specs.declared.Refusal.TheVariants as refusal
 use Rattle.gerg_saturation.specs.Answer.{Tried}
-use Rattle.gerg_saturation.specs.Halvings.{middle_of, between_of, on_end, narrowed_of, onward, ends_of, search_of, trials_from, numbered, answered_of, halvings_from, halvings_of}
+use Rattle.interval.specs.Interval.{middle_of, narrowed_of, on_end}
+use Rattle.gerg_saturation.specs.Halvings.{between_of, onward, ends_of, search_of, trials_from, numbered, answered_of, halvings_from, halvings_of}
 use Rattle.gerg_saturation.specs.declared.PureSaturation.{PureSaturation}
-use Rattle.gerg_saturation.specs.declared.Interval.{Interval}
+use Rattle.interval.specs.declared.Interval.{Interval}
 use Rattle.gerg_saturation.specs.declared.Verdict.TheVariants.{Accepted, Apart}
 
 -- after k halvings with `trials` trials the interval is b: what is left ends where the whole ends, and with those made its trials are as many

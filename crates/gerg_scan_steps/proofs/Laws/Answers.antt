@@ -1,29 +1,21 @@
 -- Steps one after the other: what each keeps, all keep, and where nothing changes any more, there all end. Assumes nothing.
-use mathlib.Core.Path.{◌≡◌, sym, ap, ◌∙◌, subst}
+use mathlib.Core.Path.{◌≡◌, sym, ap, ◌∙◌}
 use mathlib.Core.Logic.{inl, inr}
 use Prim.Native.Nat.{ℕ, zero, suc, ◌+◌, ◌-◌, ◌≤◌, ◌<◌}
 use native.Mathlib.Nat.{eq-or-lt_of_le, le_of_suc-le-suc}
 use native.Mathlib.Omega.{arith}
-use Rattle.std.specs.Prelude.{Result, Ok, Err, MatchResult, IfOk, IfErr}
+use Rattle.std.specs.Prelude.{Result, Ok, Err, MatchResult}
 use Rattle.numerics.specs.Iterate.{iter, range}
-use Rattle.gerg_scan_steps.specs.Answers.{and_then}
-
--- of what is accepted
-pub accepted : {A R : Type 0} (P : A → Type 0) (a : Result A R) {x : A} → a ≡ Ok x → IfOk a P → P x
-accepted P a {x} e p = subst (λ (b : Result _ _). IfOk b P) e p
-
--- of a refusal
-pub refused : {A R : Type 0} (Q : R → Type 0) (a : Result A R) {r : R} → a ≡ Err r → IfErr a Q → Q r
-refused Q a {r} e q = subst (λ (b : Result _ _). IfErr b Q) e q
+use Rattle.gerg_refusals.specs.Answer.{and_then}
 
 -- P of what k steps accept, and Q of a refusal
 module _ {A R : Type 0} (P : ℕ → A → Type 0) (Q : R → Type 0) (step : ℕ → A → Result A R) where
-  pub steps_keep : (n : ℕ) (a : Result A R) → MatchResult a (P 0) Q → ((k : ℕ) (x : A) → k < n → P k x → MatchResult (step k x) (P (suc k)) Q) → MatchResult (iter (λ k. and_then (step k)) n a) (P n) Q
+  pub steps_keep : (n : ℕ) (a : Result A R) → MatchResult a (P 0) Q → ((k : ℕ) (x : A) → k < n → P k x → MatchResult (step k x) (P (suc k)) Q) → MatchResult (iter (λ k b. and_then b (step k)) n a) (P n) Q
   unfolding iter
   steps_keep zero a p h = p
-  steps_keep (suc n) a p h = go (iter (λ k. and_then (step k)) n a) (steps_keep n a p (λ k x l. h k x (omega arith)))
+  steps_keep (suc n) a p h = go (iter (λ k b. and_then b (step k)) n a) (steps_keep n a p (λ k x l. h k x (omega arith)))
     where
-      go : (b : Result A R) → MatchResult b (P n) Q → MatchResult (and_then (step n) b) (P (suc n)) Q
+      go : (b : Result A R) → MatchResult b (P n) Q → MatchResult (and_then b (step n)) (P (suc n)) Q
       go (Ok x) q = h n x (omega arith) q
       go (Err r) q = q
 

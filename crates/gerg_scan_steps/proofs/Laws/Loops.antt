@@ -10,9 +10,10 @@ use lib.ListN.{length, get_or, take, drop}
 use Rattle.std.specs.Prelude.{Result, Ok, Err}
 use Rattle.std.proofs.lemmas.List.Edits.{length-between, get_or-between}
 use Rattle.numerics.specs.Iterate.{iter, range, iter_begins, iter_turn, iter_done, range_begins, range_turn, range_done}
+use Rattle.gerg_refusals.specs.Answer.{and_then}
 use Rattle.gerg_refusals.specs.declared.Refusal.{Refusal}
-use Rattle.gerg_scan_steps.specs.Answers.{and_then}
-use Rattle.gerg_scan_steps.specs.Halving.{middle_of, tried_of, halved_of, unhalved, crossing_of}
+use Rattle.interval.specs.Interval.{middle_of}
+use Rattle.gerg_scan_steps.specs.Halving.{tried_of, halved_of, unhalved, crossing_of}
 use Rattle.gerg_scan_steps.specs.Sample.{Sample}
 use Rattle.gerg_scan_steps.specs.Scan.{begun_at, scan_step, scan_of}
 use Rattle.gerg_scan_steps.specs.declared.Halving.{Halving}
@@ -22,12 +23,12 @@ use Rattle.gerg_scan_steps.proofs.Laws.Answers.{iter_rests, range_rests}
 -- ---- a crossing: so far after k halvings
 module _ (v : Float → Sample) (tolerance lo hi : Float) where
   abbrev pub halved : ℕ → Result Halving Refusal
-  halved k = iter (λ j. and_then (halved_of v tolerance)) k (Ok (unhalved lo hi))
+  halved k = iter (λ j h. and_then h (halved_of v tolerance)) k (Ok (unhalved lo hi))
 
   pub halved_first : Ok (unhalved lo hi) ≡ halved 0
   halved_first = iter_begins _ _
 
-  pub halved_more : (k : ℕ) (h : Halving) (t : Result Halving Refusal) → Ok h ≡ halved k → h.stopped ≡ false → t ≡ tried_of tolerance h (middle_of h) (v (middle_of h)) → t ≡ halved (k + 1)
+  pub halved_more : (k : ℕ) (h : Halving) (t : Result Halving Refusal) → Ok h ≡ halved k → h.stopped ≡ false → t ≡ tried_of tolerance h (middle_of h.ends) (v (middle_of h.ends)) → t ≡ halved (k + 1)
   unfolding halved_of
   halved_more k h t e s i = iter_turn _ k _ e (i ∙ rw s)
 
@@ -54,7 +55,7 @@ module _ (grid : List Float) where
 -- ---- a scan: so far at the first i points
 module _ (v : Float → Sample) (target : Float) (grid : List Float) where
   abbrev pub scanned : ℕ → Result Scan Refusal
-  scanned i = range (λ j. and_then (scan_step v target (get_or grid j nan))) 1 i (begun_at (get_or grid 0 nan) (v (get_or grid 0 nan)))
+  scanned i = range (λ j s. and_then s (scan_step v target (get_or grid j nan))) 1 i (begun_at (get_or grid 0 nan) (v (get_or grid 0 nan)))
 
   pub scanned_first : (s : Result Scan Refusal) → s ≡ begun_at (get_or grid 0 nan) (v (get_or grid 0 nan)) → s ≡ scanned 1
   scanned_first s e = e ∙ range_begins _ 1 _

@@ -2,11 +2,12 @@
 use mathlib.Core.Path.{◌≡◌, sym}
 use mathlib.Core.Bool.{Bool, true, false, ◌&&◌}
 use mathlib.Core.List.{List}
-use Prim.Native.Nat.{ℕ, suc, ◌+◌, ◌-◌, ◌≤◌}
+use Prim.Native.Nat.{◌+◌, ◌-◌, ◌≤◌}
 use native.Mathlib.Omega.{arith}
 use lib.Ieee.{Float, nan, le}
 use lib.ListN.{length, get_or}
 use Rattle.std.specs.Prelude.{Result, Ok, Err, IfOk}
+use Rattle.std.proofs.lemmas.Result.{IfOk-at_ok, IfOk-weaker}
 use Rattle.numerics.specs.Double.{+0, pick}
 use Rattle.numerics.specs.Iterate.{range}
 use Rattle.numerics.specs.Growing.{one_more, none_more}
@@ -17,15 +18,15 @@ use Rattle.gerg_scan_steps.specs.Sample.{Sample}
 use Rattle.gerg_scan_steps.specs.Scan.{begun_at, noted_of, densities, apart, grown, rooted_of, moved_of, crossed_of, seen_of, scan_step, scan_of}
 use Rattle.gerg_scan_steps.specs.declared.Halving.{Halving}
 use Rattle.gerg_scan_steps.specs.declared.Scan.{Scan}
-use Rattle.gerg_scan_steps.proofs.Laws.Answers.{accepted, steps_keep}
+use Rattle.gerg_scan_steps.proofs.Laws.Answers.{steps_keep}
 
 module _ (v : Float → Sample) (target : Float) where
   rooted_more : (h : Halving) (s : Scan) → length (rooted_of h s).roots.items ≤ length s.roots.items + 1
   unfolding rooted_of
-  rooted_more h s = go (apart h.best_density (densities s.roots.items))
+  rooted_more h s = go (apart h.best.density (densities s.roots.items))
     where
-      go : (a : Bool) → length (pick a (grown (record { density = h.best_density; residual = h.best_residual }) s) s).roots.items ≤ length s.roots.items + 1
-      go true = one_more s.roots.items (record { density = h.best_density; residual = h.best_residual })
+      go : (a : Bool) → length (pick a (grown h.best s) s).roots.items ≤ length s.roots.items + 1
+      go true = one_more s.roots.items h.best
       go false = none_more (length s.roots.items)
 
   crossed_more : (current right : Float) (s : Scan) → IfOk (crossed_of v target current right s) (λ r. length r.roots.items ≤ length s.roots.items + 1)
@@ -52,7 +53,7 @@ module _ (v : Float → Sample) (target : Float) where
   step_more current s = seen_more current s (v current)
 
   pub step_few : (current : Float) (s r : Scan) → Ok r ≡ scan_step v target current s → length r.roots.items ≤ length s.roots.items + 1
-  step_few current s r e = accepted (λ q. length q.roots.items ≤ length s.roots.items + 1) (scan_step v target current s) (sym e) (step_more current s)
+  step_few current s r e = IfOk-at_ok (λ q. length q.roots.items ≤ length s.roots.items + 1) (sym e) (step_more current s)
 
   begun_none : (first : Float) (x : Sample) → IfOk (begun_at first x) (λ s. length s.roots.items ≤ 0)
   unfolding begun_at
@@ -60,16 +61,11 @@ module _ (v : Float → Sample) (target : Float) where
   begun_none first (Err r) = tt
 
   pub begun_few : (first : Float) (x : Sample) (s : Scan) → Ok s ≡ begun_at first x → length s.roots.items ≤ 0
-  begun_few first x s e = accepted (λ q. length q.roots.items ≤ 0) (begun_at first x) (sym e) (begun_none first x)
+  begun_few first x s e = IfOk-at_ok (λ q. length q.roots.items ≤ 0) (sym e) (begun_none first x)
 
   pub scan_few : (grid : List Float) → IfOk (scan_of v target grid) (λ s. length s.roots.items ≤ length grid)
   unfolding scan_of range
-  scan_few grid = wider (scan_of v target grid) (steps_keep (λ k s. length s.roots.items ≤ k) (λ r. Unit {0}) (λ k. scan_step v target (get_or grid (1 + k) nan)) (length grid - 1) (begun_at (get_or grid 0 nan) (v (get_or grid 0 nan))) (begun_none (get_or grid 0 nan) (v (get_or grid 0 nan))) (λ k s l h. more k s h (scan_step v target (get_or grid (1 + k) nan) s) (step_more (get_or grid (1 + k) nan) s)))
-    where
-      more : (k : ℕ) (s : Scan) → length s.roots.items ≤ k → (x : Result Scan Refusal) → IfOk x (λ r. length r.roots.items ≤ length s.roots.items + 1) → IfOk x (λ r. length r.roots.items ≤ suc k)
-      more k s h (Ok r) g = omega arith
-      more k s h (Err r) g = tt
-
-      wider : (x : Result Scan Refusal) → IfOk x (λ s. length s.roots.items ≤ length grid - 1) → IfOk x (λ s. length s.roots.items ≤ length grid)
-      wider (Ok r) g = omega arith
-      wider (Err r) g = tt
+  scan_few grid =
+      IfOk-weaker (scan_of v target grid) _ _ (λ r g. omega arith)
+      (steps_keep (λ k s. length s.roots.items ≤ k) (λ r. Unit {0}) (λ k. scan_step v target (get_or grid (1 + k) nan)) (length grid - 1) (begun_at (get_or grid 0 nan) (v (get_or grid 0 nan))) (begun_none (get_or grid 0 nan) (v (get_or grid 0 nan)))
+      (λ k s l h. IfOk-weaker (scan_step v target (get_or grid (1 + k) nan) s) _ _ (λ r g. omega arith) (step_more (get_or grid (1 + k) nan) s)))

@@ -8,6 +8,7 @@ use Rattle.std.specs.Prelude.{Result, Ok, Err, IfErr}
 use Rattle.numerics.specs.Double.{+0, pick}
 use Rattle.numerics.specs.Iterate.{range}
 use Rattle.gerg_refusals.specs.declared.Refusal.{Refusal}
+use Rattle.interval.specs.Interval.{middle_of}
 use Rattle.gerg_scan_steps.specs.Answers.{mapped}
 use Rattle.gerg_scan_steps.specs.Halving as halving
 use Rattle.gerg_scan_steps.specs.Sample.{Sample}
@@ -26,9 +27,9 @@ module _ (v : Float → Sample) (Q : Refusal → Type 0) (each : (x : Float) →
   unfolding halving.halved_of
   halved_refusal tolerance h = go h.stopped
     where
-      go : (q : Bool) → IfErr (pick q (Ok h) (halving.tried_of tolerance h (halving.middle_of h) (v (halving.middle_of h)))) Q
+      go : (q : Bool) → IfErr (pick q (Ok h) (halving.tried_of tolerance h (middle_of h.ends) (v (middle_of h.ends)))) Q
       go true = tt
-      go false = tried_refusal tolerance h (halving.middle_of h) (v (halving.middle_of h)) (each (halving.middle_of h))
+      go false = tried_refusal tolerance h (middle_of h.ends) (v (middle_of h.ends)) (each (middle_of h.ends))
 
   crossing_refusal : (tolerance lo hi : Float) → IfErr (halving.crossing_of v tolerance lo hi) Q
   unfolding halving.crossing_of

@@ -11,6 +11,7 @@ use lib.Ieee.{Float, nan, lt, le, of_bits}
 use lib.Ieee.Positive.{positive}
 use lib.ListN.{length, get_or}
 use Rattle.std.specs.Prelude.{Result, Ok, Err, IfOk}
+use Rattle.std.proofs.lemmas.Result.{IfOk-weaker}
 use Rattle.numerics.specs.Double.{◌⊖◌, ◌⊗◌, bits, +0, pick}
 use Rattle.numerics.specs.Iterate.{range}
 use Rattle.numerics.specs.Spacing.{count, Good, same}
@@ -70,15 +71,12 @@ densities_more [] p = refl
 densities_more (x ∷ l) p = ap (λ (z : List Float). x.density ∷ z) (densities_more l p)
 
 -- ---- a crossing's best point joins, or the roots stay as they are
-rooted_keeps : (h : Halving) (s : Scan) (c : ℕ) → Keeps (densities s.roots.items) (count s.previous) → Density h.best_density → count s.previous ≤ count h.best_density → count h.best_density ≤ c → Keeps (densities (rooted_of h s).roots.items) c
+rooted_keeps : (h : Halving) (s : Scan) (c : ℕ) → Keeps (densities s.roots.items) (count s.previous) → Density h.best.density → count s.previous ≤ count h.best.density → count h.best.density ≤ c → Keeps (densities (rooted_of h s).roots.items) c
 unfolding rooted_of
-rooted_keeps h s c k d f t = go (apart h.best_density (densities s.roots.items)) refl
+rooted_keeps h s c k d f t = go (apart h.best.density (densities s.roots.items)) refl
   where
-    best : Point
-    best = record { density = h.best_density; residual = h.best_residual }
-
-    go : (b : Bool) → apart h.best_density (densities s.roots.items) ≡ b → Keeps (densities (pick b (grown best s) s).roots.items) c
-    go true e = rw (densities_more s.roots.items best) (joins (densities s.roots.items) h.best_density (count s.previous) c k d f t e)
+    go : (b : Bool) → apart h.best.density (densities s.roots.items) ≡ b → Keeps (densities (pick b (grown h.best s) s).roots.items) c
+    go true e = rw (densities_more s.roots.items h.best) (joins (densities s.roots.items) h.best.density (count s.previous) c k d f t e)
     go false e = wider (densities s.roots.items) (count s.previous) c (le_trans f t) k
 
 ranged_of : (a b : Float) → Density a → Density b → count a < count b → Ranged a b
@@ -91,7 +89,7 @@ unfolding crossed_of
 crossed_keeps v target current right s k p d h =
     go (le s.left +0 && le +0 right) (crossing_of v (tolerance_of target) s.previous current) (crossing_between v (tolerance_of target) s.previous current (ranged_of s.previous current p d h))
   where
-    go : (t : Bool) (c : Result Halving Refusal) → IfOk c (λ h. Between s.previous current h.best_density) → IfOk (pick t (mapped (λ h. rooted_of h s) c) (Ok s)) (λ r. Keeps (densities r.roots.items) (count current))
+    go : (t : Bool) (c : Result Halving Refusal) → IfOk c (λ h. Between s.previous current h.best.density) → IfOk (pick t (mapped (λ h. rooted_of h s) c) (Ok s)) (λ r. Keeps (densities r.roots.items) (count current))
     go true (Ok g) b = rooted_keeps g s (count current) k (record { good = b.good; least = omega (arith, p.least, b.from); most = le_trans b.to d.most }) b.from b.to
     go true (Err r) b = tt
     go false c b = wider (densities s.roots.items) (count s.previous) (count current) (le_of_lt h) k
@@ -126,10 +124,6 @@ module _ (v : Float → Sample) (target : Float) (grid : List Float) (g : Rising
   pub scan_rises : 0 < length grid → IfOk (scan_of v target grid) (λ s. Rising (densities s.roots.items))
   unfolding scan_of scan_step range
   scan_rises h =
-      rise (scan_of v target grid)
+      IfOk-weaker (scan_of v target grid) (Scanning (length grid - 1)) _ (λ s k. k.keeps.rises)
       (steps_keep Scanning (λ r. Unit {0}) (λ k. scan_step v target (get_or grid (1 + k) nan)) (length grid - 1) (begun_at (get_or grid 0 nan) (v (get_or grid 0 nan))) (begins (v (get_or grid 0 nan)) h)
       (λ k s l p. let e : 1 + k ≡ suc k = omega arith in rw e (seen k s (v (get_or grid (suc k) nan)) (omega arith) p)))
-    where
-      rise : (c : Result Scan Refusal) → IfOk c (Scanning (length grid - 1)) → IfOk c (λ s. Rising (densities s.roots.items))
-      rise (Ok s) k = k.keeps.rises
-      rise (Err r) k = tt

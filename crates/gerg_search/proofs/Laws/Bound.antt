@@ -11,7 +11,7 @@ use lib.ListN.{length}
 use Rattle.gerg_search.specs.Steps.{step_of, moved_by, moved_of}
 use Rattle.gerg_search.specs.Run.{on_try, counted, trials_from}
 use Rattle.gerg_search.specs.States.{left_by}
-use Rattle.gerg_search.specs.declared.Bracket.{Bracket}
+use Rattle.interval.specs.declared.Interval.{Interval}
 use Rattle.gerg_search.specs.declared.Options.{Options}
 use Rattle.gerg_search.specs.Sample.{Sample}
 use Rattle.gerg_search.specs.declared.Stage.{Stage}
@@ -24,7 +24,7 @@ use Rattle.numerics.specs.MiddleLaws.{floor, ceiling}
 use Rattle.gerg_search.proofs.Laws.Shrink.{Shrunk}
 use Rattle.gerg_search.proofs.Laws.Inner.{Inner, Narrowed, Gone, steps_on, stays_inner}
 
-abbrev width : Bracket → ℕ
+abbrev width : Interval → ℕ
 width b = count b.hi - count b.lo
 
 -- after k more trials the width would be below 2 ^ -63
@@ -54,7 +54,7 @@ room_all w h = go w unit (91 ^ 598) (100 ^ 598) (2 ^ 15) (2 ^ 63) unit_pos (lit<
         regroup u c d A = omega arith
 
 -- the part that a shrunk trial leaves
-leaves : (o : Options) (v : Float → Sample) (s : Search) (b : Bracket) → Shrunk s.bracket.lo s.density s.bracket.hi → Narrowed o v s b → 100 * width b ≤ 91 * width s.bracket
+leaves : (o : Options) (v : Float → Sample) (s : Search) (b : Interval) → Shrunk s.bracket.lo s.density s.bracket.hi → Narrowed o v s b → 100 * width b ≤ 91 * width s.bracket
 leaves o v s b t n = elim n.part [
   | inl p ↦ subst (λ (z : Float). 100 * (count z - count b.lo) ≤ 91 * width s.bracket) (sym p.0) (subst (λ (z : Float). 100 * (count s.bracket.hi - count z) ≤ 91 * width s.bracket) (sym p.1) t.right)
   | inr p ↦ subst (λ (z : Float). 100 * (count b.hi - count z) ≤ 91 * width s.bracket) (sym p.0) (subst (λ (z : Float). 100 * (count z - count s.bracket.lo) ≤ 91 * width s.bracket) (sym p.1) t.left)

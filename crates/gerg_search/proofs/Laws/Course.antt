@@ -15,7 +15,7 @@ use Rattle.gerg_search.specs.Steps.{go_on_of, interior_of, stage_of, step_of, mo
 use Rattle.gerg_search.specs.Run.{on_try, trials_from, last_from}
 use Rattle.gerg_search.proofs.Laws.Verdicts.{Fair, Outside, Seen, Full}
 use Rattle.gerg_search.specs.States.{left_by}
-use Rattle.gerg_search.specs.declared.Bracket.{Bracket}
+use Rattle.interval.specs.declared.Interval.{Interval}
 use Rattle.gerg_search.specs.declared.Options.{Options}
 use Rattle.gerg_search.specs.Sample.{Sample}
 use Rattle.gerg_search.specs.declared.Stage.TheVariants.{Interior}
@@ -76,7 +76,7 @@ pub record Held (o : Options) (v : Float → Sample) (l : List Float) (n : ℕ) 
 -- ---- what is known at the end
 -- row 18: two tried densities, nothing between them but what the middle's rounding hides, residuals of unlike signs
 pub record Collapsed (o : Options) (v : Float → Sample) (l : List Float) : Type 0 where
-  pub bracket : Bracket
+  pub bracket : Interval
   pub ranged : Ranged bracket.lo bracket.hi
   pub at : Float
   pub f : Float
@@ -105,7 +105,7 @@ module _ (o : Options) (v : Float → Sample) (fair : Fair v) (gl : Good o.brack
   here : (n : ℕ) (s : Search) → Inner o v s → Held o v l (suc n) s → Memᴰ s.density l
   here n s i h = h.seen s.density (subst (λ (z : List Float). Memᴰ s.density z) (sym (list_is o v n s i.stage)) (Memᴰ.head refl))
 
-  tried_part : (n : ℕ) (s : Search) (b : Bracket) → Inner o v s → Held o v l (suc n) s → Narrowed o v s b → Seen o l b.lo × Seen o l b.hi
+  tried_part : (n : ℕ) (s : Search) (b : Interval) → Inner o v s → Held o v l (suc n) s → Narrowed o v s b → Seen o l b.lo × Seen o l b.hi
   tried_part n s b i h m =
       let d : Seen o l s.density = inr (inr (here n s i h)) in
       elim m.part [

@@ -1,6 +1,8 @@
--- Every search ends, whatever its options and verdicts: its last step accepts or refuses. It refuses by 1 to 19, never by 0, and by 18 and 19 alone with a value. Assumes nothing.
+-- Every search ends, whatever its options and verdicts: its last step accepts or refuses. Its refusal is that of its last trial or its own, which is of a row from 1 to 19 and has a value in 18 and 19 alone. Assumes nothing.
 use mathlib.Core.Path.{◌≡◌, refl, sym, ap, ◌∙◌, subst}
 use mathlib.Core.Bool.{Bool, true, false, not, ◌||◌}
+use mathlib.Core.List.{[]}
+use mathlib.Core.Logic.{◌⊎◌, inl, inr}
 use Prim.Native.Nat.{ℕ, zero, suc, ◌+◌, ◌≤◌, ◌<◌}
 use native.Mathlib.Omega.{arith}
 use lib.Dec.{T, leb, nleb→lt}
@@ -8,13 +10,13 @@ use lib.Ieee.{Float, lt}
 use lib.ListN.{length}
 use Rattle.numerics.specs.Double.{+0, pick}
 use Rattle.gerg_search.specs.Checks.{options_refused, target_refused}
-use Rattle.gerg_search.specs.Point.{middle_of, next_of, collapsed_at, within_of}
+use Rattle.gerg_search.specs.Point.{next_of, collapsed_at, within_of}
+use Rattle.interval.specs.Interval.{middle_of}
 use Rattle.gerg_refusals.specs.Refusal.{number_of, value_of}
 use Rattle.gerg_search.specs.Stop.{refusal_of}
 use Rattle.gerg_search.specs.Steps.{begin_of, go_on_of, interior_of, ends_of, stage_of, step_of, moved_by, moved_of}
-use Rattle.gerg_search.specs.Run.{on_try, last_from, steps, searched, last_of, answer_of, reported, outcome_of}
+use Rattle.gerg_search.specs.Run.{on_try, last_from, steps, searched, last_of, answer_of, reported, outcome_of, trials_of}
 use Rattle.gerg_search.specs.States.{left_by}
-use Rattle.gerg_search.specs.declared.Bracket.{Bracket}
 use Rattle.gerg_search.specs.declared.Options.{Options}
 use Rattle.gerg_search.specs.Sample.{Sample}
 use Rattle.gerg_search.specs.declared.Search.{Search}
@@ -85,14 +87,6 @@ module _ (o : Options) (v : Float → Sample) where
   unfolding answer_of last_of begin_of
   never_tries = ends (steps o) (begin_of o) (omega arith)
 
--- ---- what holds of a search's refusals: of those that are its own, and of its trials'
-pub record Own (P : Refusal → Type 0) : Type 0 where
-  pub options : P refusal.Options
-  pub target : P refusal.Target
-  pub not_bracketed : P refusal.NotBracketed
-  pub collapsed : (k : ℕ) → P (refusal.Collapsed k)
-  pub limit_reached : (k : ℕ) → P (refusal.LimitReached k)
-
 -- the search's own steps blame no trial
 ends_own : (i j k : Bool) (lo hi x : Float) (r : Refusal) → pick i (Accepted lo) (pick j (Accepted hi) (pick k (Refused stop.NotBracketed) (Try x))) ≡ Refused (stop.Trial r) → ⊥
 ends_own true j k lo hi x r e = cc
@@ -118,33 +112,64 @@ step_trial o s (Ok (f, d)) r e = absurd (go s.stage e)
         let next = next_of (left_by s f) s.density f d in
         interior_own (within_of o.tolerance f) (collapsed_at (left_by s f) next) (leb o.limit s.trials) s.density next r e
 
-module _ (P : Refusal → Type 0) (own : Own P) where
-  stop_holds : (c : Stop) (k : ℕ) → ((r : Refusal) → c ≡ stop.Trial r → P r) → P (refusal_of c k)
-  stop_holds (stop.Trial r) k t = t r refl
-  stop_holds stop.NotBracketed k t = own.not_bracketed
-  stop_holds stop.Collapsed k t = own.collapsed k
-  stop_holds stop.LimitReached k t = own.limit_reached k
+-- ---- whose a search's refusal is, whatever its trials answer: that of the trial at its last density
+pub record OfTrial (high target : Float) (o : Options) (v : Float → Sample) (r : Refusal) : Type 0 where
+  pub passed : (options_refused o || target_refused high target) ≡ false
+  pub refuses : v (last_of o v).density ≡ Err r
 
-  reported_holds : (a : Step) (trials : ℕ) (b : Bracket) → ((x : Float) → a ≡ Try x → ⊥) → ((r : Refusal) → a ≡ Refused (stop.Trial r) → P r) → (r : Refusal) → reported a trials b ≡ Err r → P r
-  unfolding reported
-  reported_holds (Try x) trials b t h r e = absurd (t x refl)
-  reported_holds (Accepted x) trials b t h r e = cc
-  reported_holds (Refused c) trials b t h r e = let same : refusal_of c trials ≡ r = cc in subst P same (stop_holds c trials (λ q p. h q (ap Refused p)))
+-- or its own, of which rows 18 and 19 give the number of the trials
+abbrev pub OfSearch : ℕ → Refusal → Type 0
+OfSearch trials r = (r ≡ refusal.Options) ⊎ (r ≡ refusal.Target) ⊎ (r ≡ refusal.NotBracketed) ⊎ (r ≡ refusal.Collapsed trials) ⊎ (r ≡ refusal.LimitReached trials)
 
-  -- a search's refusal
-  pub refusal_holds : (high target : Float) (o : Options) (v : Float → Sample) → ((x : Float) (r : Refusal) → v x ≡ Err r → P r) → (r : Refusal) → outcome_of high target o v ≡ Err r → P r
-  unfolding outcome_of answer_of
-  refusal_holds high target o v trials r e = go (options_refused o) (target_refused high target) e
-    where
-      s : Search
-      s = last_of o v
+pub failed_by : (high target : Float) (o : Options) (v : Float → Sample) (r : Refusal) → outcome_of high target o v ≡ Err r → OfTrial high target o v r ⊎ OfSearch (length (trials_of high target o v)) r
+unfolding outcome_of trials_of answer_of reported
+failed_by high target o v r e = go (options_refused o) (target_refused high target) refl refl e
+  where
+    s : Search
+    s = last_of o v
 
-      go : (p q : Bool) → pick p (Err refusal.Options) (pick q (Err refusal.Target) (reported (step_of o s (v s.density)) (length (searched o v)) s.bracket)) ≡ Err r → P r
-      go true q e = let same : refusal.Options ≡ r = cc in subst P same own.options
-      go false true e = let same : refusal.Target ≡ r = cc in subst P same own.target
-      go false false e =
-          reported_holds (step_of o s (v s.density)) (length (searched o v)) s.bracket (unfold answer_of in never_tries o v)
-          (λ q p. trials s.density q (step_trial o s (v s.density) q p)) r e
+    trials : ℕ
+    trials = length (searched o v)
+
+    stopped : (c : Stop) → (options_refused o || target_refused high target) ≡ false → step_of o s (v s.density) ≡ Refused c → refusal_of c trials ≡ r → OfTrial high target o v r ⊎ OfSearch trials r
+    stopped (stop.Trial q) p a e = inl (record { passed = p; refuses = step_trial o s (v s.density) q a ∙ ap Err e })
+    stopped stop.NotBracketed p a e = inr (inr (inr (inl (sym e))))
+    stopped stop.Collapsed p a e = inr (inr (inr (inr (inl (sym e)))))
+    stopped stop.LimitReached p a e = inr (inr (inr (inr (inr (sym e)))))
+
+    answered : (a : Step) → (options_refused o || target_refused high target) ≡ false → step_of o s (v s.density) ≡ a → reported a trials s.bracket ≡ Err r → OfTrial high target o v r ⊎ OfSearch trials r
+    answered (Try x) p a e = absurd (never_tries o v x a)
+    answered (Accepted x) p a e = cc
+    answered (Refused c) p a e = stopped c p a (cc)
+
+    go :
+        (p q : Bool) → options_refused o ≡ p → target_refused high target ≡ q →
+        pick p (Err refusal.Options) (pick q (Err refusal.Target) (reported (step_of o s (v s.density)) trials s.bracket)) ≡ Err r →
+        OfTrial high target o v r ⊎ OfSearch (length (pick (p || q) [] (searched o v))) r
+    go true q i j e = inr (inl (cc))
+    go false true i j e = inr (inr (inl (cc)))
+    go false false i j e = answered (step_of o s (v s.density)) (rw (i, j)) refl e
+
+-- ---- what holds of a search's refusals: of those that are its own, and of its trials'
+pub record Own (P : Refusal → Type 0) : Type 0 where
+  pub options : P refusal.Options
+  pub target : P refusal.Target
+  pub not_bracketed : P refusal.NotBracketed
+  pub collapsed : (k : ℕ) → P (refusal.Collapsed k)
+  pub limit_reached : (k : ℕ) → P (refusal.LimitReached k)
+
+own_holds : (P : Refusal → Type 0) → Own P → (k : ℕ) (r : Refusal) → OfSearch k r → P r
+own_holds P own k r (inl e) = subst P (sym e) own.options
+own_holds P own k r (inr (inl e)) = subst P (sym e) own.target
+own_holds P own k r (inr (inr (inl e))) = subst P (sym e) own.not_bracketed
+own_holds P own k r (inr (inr (inr (inl e)))) = subst P (sym e) (own.collapsed k)
+own_holds P own k r (inr (inr (inr (inr e)))) = subst P (sym e) (own.limit_reached k)
+
+pub refusal_holds : (P : Refusal → Type 0) → Own P → (high target : Float) (o : Options) (v : Float → Sample) → ((x : Float) (r : Refusal) → v x ≡ Err r → P r) → (r : Refusal) → outcome_of high target o v ≡ Err r → P r
+refusal_holds P own high target o v trials r e = elim (failed_by high target o v r e) [
+  | inl t ↦ trials (last_of o v).density r t.refuses
+  | inr q ↦ own_holds P own (length (trials_of high target o v)) r q
+]
 
 -- ---- the numbers of refusals: those of the trials, rows 13, 14, 16, 18 and 19
 abbrev pub Row : Refusal → Type 0
@@ -163,18 +188,27 @@ own_rows = record {
 pub failed_row : (high target : Float) (o : Options) (v : Float → Sample) → ((x : Float) (r : Refusal) → v x ≡ Err r → Row r) → (r : Refusal) → outcome_of high target o v ≡ Err r → Row r
 failed_row = refusal_holds Row own_rows
 
--- ---- "The value is 0 unless given": rows 18 and 19 alone have one
+-- ---- "The value is 0 unless given": of the search's own refusals rows 18 and 19 alone have one, the number of the trials
+pub failed_value :
+    (high target : Float) (o : Options) (v : Float → Sample) (r : Refusal) → outcome_of high target o v ≡ Err r →
+    OfTrial high target o v r ⊎ (r ≡ refusal.Collapsed (length (trials_of high target o v))) ⊎ (r ≡ refusal.LimitReached (length (trials_of high target o v))) ⊎ (value_of r ≡ 0)
+failed_value high target o v r e = elim (failed_by high target o v r e) [ inl t ↦ inl t | inr q ↦ inr (by_row q) ]
+  where
+    by_row : {k : ℕ} → OfSearch k r → (r ≡ refusal.Collapsed k) ⊎ (r ≡ refusal.LimitReached k) ⊎ (value_of r ≡ 0)
+    by_row (inl e) = inr (inr (ap value_of e))
+    by_row (inr (inl e)) = inr (inr (ap value_of e))
+    by_row (inr (inr (inl e))) = inr (inr (ap value_of e))
+    by_row (inr (inr (inr (inl e)))) = inl e
+    by_row (inr (inr (inr (inr e)))) = inr (inl e)
+
+-- so in a search whose trials' refusals have none but in those rows
 abbrev pub Plain : Refusal → Type 0
 Plain r = (number_of r ≡ 18 → ⊥) → (number_of r ≡ 19 → ⊥) → value_of r ≡ 0
 
-own_plain : Own Plain
-own_plain = record {
-  options = λ a b. refl;
-  target = λ a b. refl;
-  not_bracketed = λ a b. refl;
-  collapsed = λ k a b. absurd (a refl);
-  limit_reached = λ k a b. absurd (b refl);
-}
-
-pub failed_value : (high target : Float) (o : Options) (v : Float → Sample) → ((x : Float) (r : Refusal) → v x ≡ Err r → Plain r) → (r : Refusal) → outcome_of high target o v ≡ Err r → Plain r
-failed_value = refusal_holds Plain own_plain
+pub failed_plain : (high target : Float) (o : Options) (v : Float → Sample) → ((x : Float) (r : Refusal) → v x ≡ Err r → Plain r) → (r : Refusal) → outcome_of high target o v ≡ Err r → Plain r
+failed_plain high target o v trials r e = elim (failed_value high target o v r e) [
+  | inl t ↦ trials (last_of o v).density r t.refuses
+  | inr (inl e) ↦ λ a b. absurd (a (ap number_of e))
+  | inr (inr (inl e)) ↦ λ a b. absurd (b (ap number_of e))
+  | inr (inr (inr e)) ↦ λ a b. e
+]

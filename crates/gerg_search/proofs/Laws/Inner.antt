@@ -8,11 +8,12 @@ use native.Mathlib.Omega.{arith}
 use lib.Dec.{leb}
 use lib.Ieee.{Float, lt}
 use Rattle.numerics.specs.Double.{+0, pick}
-use Rattle.gerg_search.specs.Point.{next_of, narrowed_of, collapsed_at, within_of}
+use Rattle.gerg_search.specs.Point.{next_of, collapsed_at, within_of}
+use Rattle.interval.specs.Interval.{narrowed_of}
 use Rattle.gerg_search.specs.Steps.{go_on_of, interior_of, stage_of, step_of, moved_by, moved_of}
 use Rattle.gerg_search.proofs.Laws.Verdicts.{Outside}
 use Rattle.gerg_search.specs.States.{left_by}
-use Rattle.gerg_search.specs.declared.Bracket.{Bracket}
+use Rattle.interval.specs.declared.Interval.{Interval}
 use Rattle.gerg_search.specs.declared.Options.{Options}
 use Rattle.gerg_search.specs.Sample.{Sample}
 use Rattle.gerg_search.specs.declared.Stage.TheVariants.{Interior}
@@ -71,7 +72,7 @@ strict : (m n : ℕ) → m ≤ n → (m ≡ n → ⊥) → m < n
 strict m n h k = elim (eq-or-lt_of_le h) [ inl e ↦ absurd (k e) | inr l ↦ l ]
 
 -- the bracket after a trial that neither accepts nor refuses
-pub record Narrowed (o : Options) (v : Float → Sample) (s : Search) (b : Bracket) : Type 0 where
+pub record Narrowed (o : Options) (v : Float → Sample) (s : Search) (b : Interval) : Type 0 where
   pub ranged : Ranged b.lo b.hi
   pub first : count o.bracket.lo ≤ count b.lo
   pub last : count b.hi ≤ count o.bracket.hi

@@ -13,13 +13,14 @@ use Rattle.numerics.specs.Spacing.{Good, le→count, lt→count}
 use Rattle.numerics.specs.SpacingRounded.{Ranged}
 use Rattle.numerics.specs.MiddleLaws.{middle_good}
 use Rattle.numerics.specs.MiddleEnds.{no_double_between}
-use Rattle.gerg_search.specs.Point.{middle_of, margin_of, inside_of, next_of, collapsed_at}
+use Rattle.gerg_search.specs.Point.{margin_of, inside_of, next_of, collapsed_at}
+use Rattle.interval.specs.Interval.{middle_of}
 use Rattle.gerg_search.specs.States.{NoneBetween}
-use Rattle.gerg_search.specs.declared.Bracket.{Bracket}
+use Rattle.interval.specs.declared.Interval.{Interval}
 use Rattle.gerg_search.proofs.Laws.Shrink.{newton_shrinks}
 
-pub neighbours : (b : Bracket) (rho f d : Float) → Ranged b.lo b.hi → collapsed_at b (next_of b rho f d) ≡ true → NoneBetween b.lo b.hi
-unfolding next_of inside_of middle_of collapsed_at
+pub neighbours : (b : Interval) (rho f d : Float) → Ranged b.lo b.hi → collapsed_at b (next_of b rho f d) ≡ true → NoneBetween b.lo b.hi
+unfolding next_of inside_of collapsed_at
 neighbours b rho f d r = go (inside_of b (rho ⊖ f ⊘ d)) refl
   where
     go : (i : Bool) → inside_of b (rho ⊖ f ⊘ d) ≡ i → collapsed_at b (pick i (rho ⊖ f ⊘ d) (middle_of b)) ≡ true → NoneBetween b.lo b.hi

@@ -19,7 +19,7 @@ use Rattle.gerg_search.specs.Run.{searched, last_of, answer_of, reported, outcom
 use Rattle.gerg_search.proofs.Laws.Verdicts.{Fair, Full, Neighbours}
 use Rattle.gerg_search.specs.States.{Doubles}
 use Rattle.gerg_search.specs.States.{NoneBetween, state_after, left_by}
-use Rattle.gerg_search.specs.declared.Bracket.{Bracket}
+use Rattle.interval.specs.declared.Interval.{Interval}
 use Rattle.gerg_search.specs.declared.Options.{Options}
 use Rattle.gerg_search.specs.Sample.{Sample}
 use Rattle.gerg_search.specs.declared.Stage.TheVariants.{Interior}
@@ -38,13 +38,13 @@ use Rattle.gerg_refusals.specs.declared.Refusal.TheVariants as refusal
 use Rattle.gerg_search.specs.declared.Stop.TheVariants as stop
 
 -- ---- what an outcome says of the answer that it reports
-report_found : (a : Step) (n : ℕ) (b : Bracket) (f : Found) → reported a n b ≡ Ok f → (a ≡ Accepted f.density) × (f.trials ≡ n)
+report_found : (a : Step) (n : ℕ) (b : Interval) (f : Found) → reported a n b ≡ Ok f → (a ≡ Accepted f.density) × (f.trials ≡ n)
 unfolding reported
 report_found (Try y) n b f e = cc
 report_found (Accepted y) n b f e = let same : record { density = y; trials = n; bracket = b } ≡ f = cc in (ap (λ (z : Found). Accepted z.density) same, sym (ap (λ (z : Found). z.trials) same))
 report_found (Refused c) n b f e = cc
 
-report_failed : (a : Step) (n : ℕ) (b : Bracket) (r : Refusal) → ((x : Float) → a ≡ Try x → ⊥) → reported a n b ≡ Err r → (c : Stop) × (a ≡ Refused c) × (refusal_of c n ≡ r)
+report_failed : (a : Step) (n : ℕ) (b : Interval) (r : Refusal) → ((x : Float) → a ≡ Try x → ⊥) → reported a n b ≡ Err r → (c : Stop) × (a ≡ Refused c) × (refusal_of c n ≡ r)
 unfolding reported
 report_failed (Try y) n b r h e = absurd (h y refl)
 report_failed (Accepted y) n b r h e = cc

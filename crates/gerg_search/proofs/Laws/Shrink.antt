@@ -20,8 +20,9 @@ use Rattle.numerics.specs.Middle.{half, middle}
 use Rattle.numerics.specs.Spacing.{unit, unit_pos, count, counted, gap, Good, lt→cross, count→le}
 use Rattle.numerics.specs.SpacingRounded.{OneRounding, rough, Ranged, sum_good, less_good, part_good, part_near}
 use Rattle.numerics.specs.MiddleLaws.{product, more, width_good, width_near, width_least, width_most, half_near, middle_good, middle_near}
-use Rattle.gerg_search.specs.Point.{tenth, middle_of, margin_of, inside_of, next_of, collapsed_at}
-use Rattle.gerg_search.specs.declared.Bracket.{Bracket}
+use Rattle.gerg_search.specs.Point.{tenth, margin_of, inside_of, next_of, collapsed_at}
+use Rattle.interval.specs.Interval.{middle_of}
+use Rattle.interval.specs.declared.Interval.{Interval}
 
 -- 0.1 is 3602879701896397 / 2 ^ 55
 tenth_is : tenth ≡ fin false 3602879701896397 (negsuc 54)
@@ -141,12 +142,12 @@ module _ (lo hi : Float) (r : Ranged lo hi) where
         record { good = newton_good; over = omega (arith, newton_over); under = omega (arith, newton_under); left = p.0; right = p.1 }
 
 -- ---- the next point of a bracket, where it is not collapsed
-not_collapsed : (b : Bracket) (x : Float) → collapsed_at b x ≡ false → (T (le x b.lo) → ⊥) × (T (le b.hi x) → ⊥)
+not_collapsed : (b : Interval) (x : Float) → collapsed_at b x ≡ false → (T (le x b.lo) → ⊥) × (T (le b.hi x) → ⊥)
 unfolding collapsed_at
 not_collapsed b x e = let n = or_false (le x b.lo) (le b.hi x) e in (λ t. clash t n.0, λ t. clash t n.1)
 
-pub next_shrinks : (b : Bracket) (rho f d : Float) → Ranged b.lo b.hi → collapsed_at b (next_of b rho f d) ≡ false → Shrunk b.lo (next_of b rho f d) b.hi
-unfolding next_of inside_of middle_of
+pub next_shrinks : (b : Interval) (rho f d : Float) → Ranged b.lo b.hi → collapsed_at b (next_of b rho f d) ≡ false → Shrunk b.lo (next_of b rho f d) b.hi
+unfolding next_of inside_of
 next_shrinks b rho f d r = go (inside_of b (rho ⊖ f ⊘ d)) refl
   where
     go : (i : Bool) → inside_of b (rho ⊖ f ⊘ d) ≡ i → collapsed_at b (pick i (rho ⊖ f ⊘ d) (middle_of b)) ≡ false → Shrunk b.lo (pick i (rho ⊖ f ⊘ d) (middle_of b)) b.hi

@@ -8,7 +8,8 @@ use lib.Ieee.{Float, lt}
 use Rattle.numerics.specs.Double.{+0, pick}
 use Rattle.numerics.specs.Tests.{or_false}
 use Rattle.numerics.specs.Spacing.{count→lt}
-use Rattle.gerg_search.specs.Point.{next_of, collapsed_at, within_of, middle_of}
+use Rattle.gerg_search.specs.Point.{next_of, collapsed_at, within_of}
+use Rattle.interval.specs.Interval.{middle_of}
 use Rattle.gerg_search.specs.Steps.{begin_of, go_on_of, interior_of, ends_of, stage_of, step_of, moved_by, moved_of}
 use Rattle.gerg_search.specs.Run.{on_try, counted, trials_from, searched, last_of, answer_of}
 use Rattle.gerg_search.specs.States.{NoneBetween, state_after, left_by}

@@ -10,7 +10,8 @@ use lib.Ieee.{Float, lt, le}
 use lib.ListN.{length}
 use Rattle.numerics.specs.Double.{+0}
 use Rattle.numerics.specs.Tests.{or_false}
-use Rattle.gerg_search.specs.Point.{middle_of, within_of}
+use Rattle.gerg_search.specs.Point.{within_of}
+use Rattle.interval.specs.Interval.{middle_of}
 use Rattle.gerg_search.specs.Steps.{begin_of, ends_of, stage_of, step_of, moved_by, moved_of}
 use Rattle.gerg_search.specs.Run.{on_try, counted, trials_from, last_from, steps, searched, last_of, answer_of}
 use Rattle.gerg_search.proofs.Laws.Verdicts.{Fair}
@@ -102,7 +103,6 @@ module _ (o : Options) (v : Float → Sample) (b : Begun o) (fair : Fair v) wher
 
   -- the first interior state: the ends have residuals of unlike signs, outside the tolerance
   pub first_inner : (f d g e : Float) → v o.bracket.lo ≡ Ok (f, d) → v o.bracket.hi ≡ Ok (g, e) → within_of o.tolerance f ≡ false → within_of o.tolerance g ≡ false → lt +0 f ≡ false → lt g +0 ≡ false → Inner o v (at_middle o f)
-  unfolding middle_of
   first_inner f d g e p q wf wg sf sg = record {
     stage = refl;
     ranged = r;

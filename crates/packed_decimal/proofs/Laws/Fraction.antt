@@ -4,22 +4,16 @@ use mathlib.Core.Bool.{false}
 use Prim.Native.Nat.{ℕ, ◌*◌, ◌^◌, ◌≤◌}
 use native.Mathlib.Nat.{mul-pos}
 use native.Mathlib.Omega.{arith}
-use lib.Dec.{T, lit≤}
+use lib.Dec.{lit≤}
 use lib.IntN.{pos}
-use lib.Ieee.{Float, nan, inf, fin, binary64, round, of_int, of_bits}
+use lib.Ieee.{Float, fin, binary64, round, of_int, of_bits}
 use lib.Ieee.Back.{round_whole}
 use lib.Ieee.Exact.{HasValue}
 use lib.Ieee.Positive.{num, den, den_pos, value→cross}
 use lib.Ieee.Scale.{round_same}
 use Rattle.numerics.specs.Double.{◌⊘◌, bits}
-use Rattle.numerics.specs.Nonneg.{div_is0}
-use Rattle.numerics.specs.Sign.{nonneg}
+use Rattle.numerics.specs.Nonneg.{div_is0, nonneg_value}
 use Rattle.packed_decimal.specs.Record.{fraction_of}
-
-unsigned : (x : Float) (a c : ℕ) → HasValue x false a c → T (nonneg x)
-unsigned nan a c h = absurd h
-unsigned (inf s) a c h = absurd h
-unsigned (fin s m e) a c h = rw h.0 tt
 
 -- 1000000.0
 million : Float
@@ -35,7 +29,7 @@ quotient p h =
     let x = round binary64 false p 1 in
     let v : HasValue x false p 1 = round_whole binary64 false p h in
     let y = fin false 15625 (pos 6) in
-    ap (λ (d : Float). x ⊘ d) million_is ∙ div_is0 binary64 x y (unsigned x p 1 v) tt
+    ap (λ (d : Float). x ⊘ d) million_is ∙ div_is0 binary64 x y (nonneg_value x p 1 v) tt
     ∙ round_same binary64 false (num x * 1) (1_000_000 * den x) p 1_000_000 (mul-pos (lit≤ tt) (den_pos x)) (lit≤ tt) (cross (num x) (den x) p (value→cross x p 1 v))
   where
     cross : (n d p : ℕ) → n * 1 ≡ p * d → n * 1 * 1_000_000 ≡ p * (1_000_000 * d)

@@ -1,16 +1,15 @@
 -- The first wrong record is the first chunk of six bytes that is told wrong. Assumes nothing.
-use Rattle.std.proofs.Common.{◌≡◌, refl, sym, ap, ◌∙◌, Bool, true, false, List, [], ◌∷◌, ℕ, zero, suc, ◌+◌, ◌-◌, ◌*◌, ◌<◌, ◌≤◌, min, length, get_or, take, drop, Option, Some, None, arith, ltb, length-take, length-drop, get_or-take, get_or-drop, option_map, is_some}
+use Rattle.std.proofs.Common.{◌≡◌, refl, sym, ap, ◌∙◌, Bool, true, false, List, [], ◌∷◌, ℕ, ◌+◌, ◌-◌, ◌*◌, ◌<◌, min, length, get_or, take, drop, Option, Some, None, arith, ltb, length-take, length-drop, get_or-take, get_or-drop, option_map, is_some}
 use Rattle.std.proofs.lemmas.Bool.{lt-ltb, le-ltb, ltb-true, ltb-false}
 use denote.Ref.{Bor}
 use denote.Param.Members.{Mut, Called}
-use Rattle.std.specs.Option.{IfSome, IsSomeAnd}
+use Rattle.std.specs.Bool.{then_some}
+use Rattle.std.specs.Option.{IfSome, IsSomeAnd, MatchOption}
 use Rattle.std.specs.List.{IsSubsliceAt}
 use Rattle.std.specs.Iterator.Runs.{Run, CallKeepsClosure, AllItemsGive, IsFirstToGive, ItemsMapToChunks}
-use Rattle.gerg_model.specs.MixtureCheck.{first_place}
-use Rattle.gerg_model.proofs.Laws.First.{first_begins, first_turn, first_here, first_none}
+use Rattle.gerg_model.proofs.Laws.First.{first_is}
 use Rattle.packed_decimal.specs.Record.{wrong_record}
 use Rattle.packed_decimal.specs.Records.{offset_of, begun, wrong_offset}
-use Rattle.packed_decimal.proofs.Laws.Record.{not_cut}
 
 -- the bytes of record k alone
 abbrev record_alone : List ℕ → ℕ → List ℕ
@@ -34,13 +33,6 @@ wrong_alone bytes k h =
     let first : get_or (record_alone bytes k) 0 0 ≡ get_or bytes (6 * k) 0 = byte_alone bytes k 0 (omega arith) ∙ ap (λ (at : ℕ). get_or bytes at 0) (omega arith) in
     rw (cut, first, byte_alone bytes k 2 (omega arith), byte_alone bytes k 3 (omega arith), byte_alone bytes k 4 (omega arith), byte_alone bytes k 5 (omega arith))
 
--- no record before record k is wrong
-passed : (bad : ℕ → Bool) (n k : ℕ) → k ≤ n → ((j : ℕ) → j < k → bad j ≡ false) → first_place bad n 0 ≡ first_place bad (n - k) k
-passed bad n zero h e = first_begins bad n
-passed bad n (suc k) h e =
-    let s : k + 1 ≡ suc k = omega arith in
-    rw s at (first_turn bad n k (omega arith) (e k (omega arith)) (passed bad n k (omega arith) (λ j l. e j (omega arith))))
-
 -- there is an item below the length of a run
 item : {A : Type 0} (xs : List A) (j : ℕ) → j < length xs → A
 item [] j h = absurd (omega arith)
@@ -63,23 +55,32 @@ module _ {S F : Type 0} {steps : S → Option (Bor (List ℕ)) → S → Type 0}
   some_told : (b : Bool) (k : ℕ) → IsSomeAnd (p.at k) (λ x. Called g f (x, tt) b f) → (k * 6 < length bytes) × (wrong_record bytes (6 * k) ≡ b)
   some_told b k s = told b k (p.at k) (chunks.2 k) s
 
-  pub first_wrong : (k : ℕ) → IsFirstToGive p g f true false k → 6 * k ≡ wrong_offset bytes
+  -- the answer of `wrong_offset`
+  abbrev pub Told : Option ℕ → Type 0
+  Told o = o ≡ then_some (ltb (wrong_offset bytes) (length bytes)) (wrong_offset bytes)
+
+  first_wrong : (k : ℕ) → IsFirstToGive p g f true false k → Told (Some (6 * k))
   unfolding wrong_offset
   first_wrong k h =
       let i = h keeps in
       let here = some_told true k i.0 in
-      ap offset_of (first_here bad (begun bytes) k (omega arith) here.1 (passed bad (begun bytes) k (omega arith) (λ j l. (some_told false j (i.1 j l)).1)))
+      let e = first_is bad (begun bytes) k (omega arith) (λ j l. (some_told false j (i.1 j l)).1) (λ l. here.1) in
+      rw (e, lt-ltb (6 * k) (length bytes) (omega arith)) refl
 
   at_each : (j : ℕ) → j < p.len → is_some (option_map (λ y. y) (p.at j)) ≡ true
   at_each j h = ap is_some (p.reads j (item p.items j (omega (arith, p.long))) h)
 
-  pub none_wrong : p.whole ≡ true → AllItemsGive p g f false → length bytes ≡ wrong_offset bytes
+  none_wrong : p.whole ≡ true → AllItemsGive p g f false → Told None
   unfolding wrong_offset
   none_wrong w h =
       let n : p.len ≡ begun bytes = let e = chunks.1 w in omega arith in
       let none : (j : ℕ) → j < begun bytes → wrong_record bytes (6 * j) ≡ false = λ j l. (some_told false j (there (λ x. Called g f (x, tt) false f) (p.at j) (at_each j (omega arith)) (h keeps j))).1 in
-      whole (begun bytes) refl none ∙ ap offset_of (first_none bad (begun bytes) (begun bytes) refl (passed bad (begun bytes) (begun bytes) (omega arith) none))
-    where
-      whole : (n : ℕ) → n ≡ begun bytes → ((j : ℕ) → j < n → wrong_record bytes (6 * j) ≡ false) → length bytes ≡ 6 * n
-      whole zero e none = omega arith
-      whole (suc n) e none = let l = not_cut bytes (6 * n) (none n (omega arith)) in omega arith
+      let e = first_is bad (begun bytes) (begun bytes) (omega arith) none (λ l. absurd (omega arith)) in
+      rw (e, le-ltb (6 * begun bytes) (length bytes) (omega arith)) refl
+
+  -- `position`, and then `map` to the offset
+  pub offset_told : {Post : ℕ → ℕ → Type 0} (o r : Option ℕ) → MatchOption o ((p.whole ≡ true) × AllItemsGive p g f false) (λ k. (p.len ≡ k + 1) × IsFirstToGive p g f true false k) →
+      MatchOption o (r ≡ None) (λ k. IsSomeAnd r (Post k)) → ((k at : ℕ) → Post k at → at ≡ 6 * k) → Told r
+  offset_told None r h m six = rw m (none_wrong h.0 h.1)
+  offset_told (Some k) None h m six = absurd m
+  offset_told (Some k) (Some at) h m six = rw (six k at m) (first_wrong k h.1)

@@ -6,4 +6,4 @@ use Rattle.chromatograph.proofs.reader.put_components.Goals as goal
 
 pub returns : goal.returns
 unfolding component_at
-returns c = c.write_front.ensures (λ k. component_at c.args.bytes.now (offset_of k)) (λ k x h p. search rules)
+returns c = c.write_each.ensures (λ k. component_at c.args.bytes.now (offset_of k)) (λ k x h p. search rules)

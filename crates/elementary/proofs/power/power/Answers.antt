@@ -1,13 +1,10 @@
 use native.Mathlib.Omega.{arith}
 use borrow.Author.Tests.{eq-eqb, ne_eqb}
-use mathlib.Core.Path.{refl, sym, ◌∙◌}
+use mathlib.Core.Path.{sym, ◌∙◌}
 use Rattle.elementary.specs.Power.{power_of}
 use Rattle.elementary.proofs.PowerSteps.{power_ends, power_turn}
 use Rattle.elementary.proofs.power.power.Goals as goal
 use Rattle.elementary.proofs.power.power.Goals.{then-m-eq1, else-m-eq1}
-
-pub loop-m-init : goal.loop-m-init
-loop-m-init c = (omega arith, refl)
 
 pub loop-m-preserved : goal.loop-m-preserved
 loop-m-preserved c =

@@ -18,9 +18,6 @@ number b q e h = rw (e, nan_bits_above binary64 q ∙ le-ltb _ _ (small q h)) tt
     small : (q : ℕ) → q < 0x7ff0_0000_0000_0000 → q % 0x8000_0000_0000_0000 ≤ 0x7ff0_0000_0000_0000
     small q h = omega arith
 
-pub entry_pattern-requires : goal.entry_pattern-requires
-entry_pattern-requires c = c.requires.j_bound
-
 pub float_from_bits-result : goal.float_from_bits-result
 float_from_bits-result c =
     let r = c.requires in

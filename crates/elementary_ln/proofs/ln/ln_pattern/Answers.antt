@@ -11,15 +11,6 @@ use Rattle.elementary_ln.proofs.ln.ln_pattern.Goals as goal
 pub overflow_sub-n : goal.overflow_sub-n
 overflow_sub-n c = let h = highest_bit _ c.requires.b_nonzero (omega arith) in omega arith
 
-pub overflow_cast-n : goal.overflow_cast-n
-overflow_cast-n c = let h = highest_bit _ c.requires.b_nonzero (omega arith) in omega arith
-
-pub overflow_shl-n : goal.overflow_shl-n
-overflow_shl-n c = let h = highest_bit _ c.requires.b_nonzero (omega arith) in omega arith
-
-pub overflow_sub-z : goal.overflow_sub-z
-overflow_sub-z c = let h = highest_bit _ c.requires.b_nonzero (omega arith) in omega arith
-
 pub overflow_sub-n-then-b-lt4503599627370496 : goal.overflow_sub-n-then-b-lt4503599627370496
 overflow_sub-n-then-b-lt4503599627370496 c = let h = highest_bit _ c.requires.b_nonzero (omega arith) in omega arith
 

@@ -4,9 +4,6 @@ use Rattle.elementary_sqrt.proofs.Root.{radicand_odd, radicand_even, bits_of}
 use Rattle.elementary_sqrt.proofs.sqrt.root_bits.Goals as goal
 use Rattle.elementary_sqrt.proofs.sqrt.root_bits.Goals.{then-e-eq1, else-e-eq1}
 
-pub nearest_root-requires : goal.nearest_root-requires
-nearest_root-requires c = elim c.if-e-eq1.branch [ then-e-eq1 w ↦ omega (arith, w.radicand-is) | else-e-eq1 w ↦ omega (arith, w.radicand-is) ]
-
 pub returns : goal.returns
 returns c =
     let e = c.exponent-e in

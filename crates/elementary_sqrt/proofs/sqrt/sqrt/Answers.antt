@@ -2,14 +2,11 @@
 use native.Mathlib.Omega.{arith}
 use mathlib.Core.Path.{sym, subst}
 use lib.Dec.{T}
-use Rattle.numerics.specs.Patterns.{pattern_pos, pattern_below, positive_number}
+use Rattle.numerics.specs.Patterns.{pattern_pos, pattern_below}
 use Rattle.numerics.specs.Literals.{zero_over_zero, no_nan}
 use Rattle.numerics.specs.Order.{positive_of_tests}
 use Rattle.elementary_sqrt.specs.Sqrt.{sqrt_of}
 use Rattle.elementary_sqrt.proofs.sqrt.sqrt.Goals as goal
-
-pub float_to_bits-x : goal.float_to_bits-x
-float_to_bits-x c = positive_number _ (positive_of_tests _ c.if-x.true)
 
 pub root_bits-requires : goal.root_bits-requires
 root_bits-requires c =

@@ -8,4 +8,4 @@ use Rattle.gerg_composition.proofs.composition.composition_row.Given as goal
 
 abbrev pub invariant-loop-j : goal.invariant-loop-j
 invariant-loop-j l =
-    l.g ≡ range (departure_pair (lent l.coefficients) l.x l.point.delta l.point.tau l.i) (l.i + 1) l.j l.initial.g
+    l.g ≡ range (departure_pair (lent l.coefficients) l.x l.point.powers.delta l.point.tau l.i) (l.i + 1) l.j l.initial.g

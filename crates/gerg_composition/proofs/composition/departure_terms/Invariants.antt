@@ -9,5 +9,5 @@ use Rattle.gerg_composition.proofs.composition.departure_terms.Given as goal
 
 abbrev pub invariant-loop-k : goal.invariant-loop-k
 invariant-loop-k l =
-    (l.n ≤ 12) × (l.n ≡ kpolij l.coefficients.integers.now l.m + kexpij l.coefficients.integers.now l.m) ×
-    (l.sum ≡ iter (departure_step (lent l.coefficients) l.pair l.point.delta l.point.tau l.m) l.k l.initial.sum)
+    (l.n ≤ 12) × (l.n ≡ kpolij l.coefficients.integers.now l.function.m + kexpij l.coefficients.integers.now l.function.m) ×
+    (l.sum ≡ iter (departure_step (lent l.coefficients) l.function.pair l.point.powers.delta l.point.tau l.function.m) l.k l.initial.sum)

@@ -11,4 +11,4 @@ use Rattle.gerg_composition.proofs.composition.pure_terms.Given as goal
 abbrev pub invariant-loop-k : goal.invariant-loop-k
 invariant-loop-k l =
     (l.n ≤ 24) × (l.n ≡ kpol l.coefficients.integers.now l.i + kexp l.coefficients.integers.now l.i) ×
-    (l.sum ≡ iter (λ k s. s ⊕ pure_term (lent l.coefficients) l.point.delta l.point.tau l.i k) l.k l.initial.sum)
+    (l.sum ≡ iter (λ k s. s ⊕ pure_term (lent l.coefficients) l.point.powers.delta l.point.tau l.i k) l.k l.initial.sum)

@@ -6,4 +6,4 @@ use Rattle.gerg_composition.specs.Powers.{damping_at}
 use Rattle.gerg_composition.proofs.powers.dampings_of.Given as goal
 
 abbrev pub invariant-loop-q : goal.invariant-loop-q
-invariant-loop-q l = (length l.initial.a ≡ 17) × (l.a ≡ filled (damping_at l.delta) l.q l.initial.a)
+invariant-loop-q l = (length l.initial.a ≡ 17) × (l.a ≡ filled (damping_at l.powers.delta) l.q l.initial.a)

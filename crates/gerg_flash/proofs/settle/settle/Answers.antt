@@ -26,7 +26,7 @@ loop-found-preserved c =
     let t = c.loop-found in
     let s = ap (λ z. leaves z c.keep.new.roots.items) (sym c.in_ok-keep.was) ∙ c.keep.ensures in
     let e = rw c.deref-found-items.ensures.0 at s in
-    (omega (arith, t.invariant.0, kept_few (root_for c.args.sought) c.args.sought.pressure c.args.scan.now t.found-index _ _ e), kept_more _ _ c.args.scan.now t.found-index _ _ t.invariant.1 e)
+    (omega (arith, t.invariant.0, kept_few (root_for c.args.sought) c.args.sought.densities.pressure c.args.scan.now t.found-index _ _ e), kept_more _ _ c.args.scan.now t.found-index _ _ t.invariant.1 e)
 
 pub returns : goal.returns
 returns c =

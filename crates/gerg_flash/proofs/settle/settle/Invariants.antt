@@ -8,4 +8,4 @@ use Rattle.gerg_flash.specs.SoughtRoots.{root_for}
 use Rattle.gerg_flash.proofs.settle.settle.Given as goal
 
 abbrev pub invariant-loop-found : goal.invariant-loop-found
-invariant-loop-found l = (length l.roots.items ≤ l.found-index) × (Ok l.roots.items ≡ kept (root_for l.sought) l.sought.pressure l.scan l.found-index)
+invariant-loop-found l = (length l.roots.items ≤ l.found-index) × (Ok l.roots.items ≡ kept (root_for l.sought) l.sought.densities.pressure l.scan l.found-index)

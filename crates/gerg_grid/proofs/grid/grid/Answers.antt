@@ -7,10 +7,11 @@ use lib.Ieee.{Float}
 use Rattle.numerics.specs.Iterate.{iter_begins, iter_turn, iter_done}
 use Rattle.gerg_grid.specs.Grid.{sorted_points, kept, grid_of}
 use Rattle.gerg_grid.proofs.Laws.GridFew.{kept_more}
+use Rattle.gerg_grid.proofs.Laws.GridRises.{length_sorted}
 use Rattle.gerg_grid.proofs.grid.grid.Goals as goal
 
 pub loop-x-init : goal.loop-x-init
-loop-x-init c = (omega (arith, ap length c.new-points.ensures), c.sorted_points-sorted.ensures, c.new-points.ensures ∙ iter_begins _ _)
+loop-x-init c = (omega (arith, ap length c.new-points.ensures), c.as_slice-x-items.ensures.value ∙ c.sorted_points-sorted.ensures, c.new-points.ensures ∙ iter_begins _ _)
 
 pub loop-x-preserved : goal.loop-x-preserved
 loop-x-preserved c =
@@ -20,4 +21,4 @@ loop-x-preserved c =
 
 pub returns : goal.returns
 unfolding grid_of
-returns c = iter_done _ _ _ _ c.loop-x.invariant.2 (omega arith)
+returns c = iter_done _ _ _ _ c.loop-x.invariant.2 (omega (arith, ap length c.loop-x.invariant.1, length_sorted))

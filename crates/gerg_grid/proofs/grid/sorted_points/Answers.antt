@@ -1,22 +1,34 @@
-use lib.Ieee.{Float}
+use lib.Dec.{lit<}
+use lib.Ieee.{Float, lt}
+use lib.ListN.{length}
 use native.Mathlib.Omega.{arith}
-use mathlib.Core.Path.{refl, ap, ◌∙◌}
-use Rattle.gerg_grid.specs.GridArray.{insert_from}
-use Rattle.gerg_grid.proofs.Laws.Insertion.{sorts_begin, sorts_turn, sorts_done}
+use mathlib.Core.Bool.{not}
+use mathlib.Core.List.{List}
+use mathlib.Core.Path.{sym, ap, ◌∙◌}
+use Rattle.std.proofs.Common.{rules}
+use Rattle.std.proofs.lemmas.List.Sorted.{IsPartitionPoint-from_clause}
+use Rattle.std.specs.List.{insert}
+use Rattle.gerg_grid.proofs.Laws.GridRises.{parted}
+use Rattle.gerg_grid.proofs.Laws.Insertion.{sorts_begin, sorts_length, sorts_turn, sorts_done}
 use Rattle.gerg_grid.proofs.grid.sorted_points.Goals as goal
 
 pub loop-k-init : goal.loop-k-init
-loop-k-init c = (refl, sorts_begin _, c.ln-span.ensures)
+loop-k-init c = (c.new-sorted.ensures ∙ sorts_begin, c.ln-span.ensures)
 
-pub point-v-requires : goal.point-v-requires
-point-v-requires c = c.loop-k.invariant.2
+pub insert-requires : goal.insert-requires
+insert-requires c =
+    let n = sorts_length _ _ c.loop-k.invariant.0 in
+    let l = ap length c.deref.ensures.0 in
+    (lit< tt, (omega (arith, l, c.partition_point-at.ensures.bound), omega (arith, n)))
 
 pub loop-k-preserved : goal.loop-k-preserved
 loop-k-preserved c =
     let t = c.loop-k in
-    (t.invariant.0, sorts_turn t.k _ t.a _ (omega arith) t.invariant.1 (c.insert.ensures ∙ ap (λ (v : Float). insert_from t.k v t.a) c.point-v.ensures), t.invariant.2)
+    let v = c.point-v.result in
+    let l = c.deref.ensures.0 in
+    let order = parted t.k t.k v _ c.point-v.ensures (l ∙ t.invariant.0) in
+    let place = IsPartitionPoint-from_clause (λ u. not (lt v u)) _ _ c.partition_point-at.ensures.partitioned order (λ a r q k. search rules) in
+    (c.insert.ensures.items ∙ ap (λ (z : List Float). insert z c.partition_point-at.result v) (sym l) ∙ sorts_turn t.k _ v _ c.point-v.ensures (l ∙ t.invariant.0) place c.partition_point-at.ensures.bound, c.ln-span.ensures)
 
 pub returns : goal.returns
-returns c =
-    let t = c.loop-k in
-    sorts_done _ _ t.a t.invariant.0 (omega arith) t.invariant.1
+returns c = sorts_done c.loop-k.k _ (omega arith) c.loop-k.invariant.0

@@ -1,5 +1,3 @@
-use mathlib.Core.Path.{sym, ◌∙◌}
-use Rattle.std.proofs.lemmas.List.{take_all}
 use borrow.Author.Rules.{rules}
 use borrow.Author.Tests.{tests}
 use mathlib.Core.Bool.{not, ◌||◌}
@@ -8,9 +6,8 @@ use Rattle.std.specs.Float.Ieee.Scale.{finite}
 use Rattle.numerics.specs.Double.{+0}
 use Rattle.gerg_model.specs.MixtureCheck.{bad_fraction}
 use Rattle.gerg_model.proofs.Laws.First.{first_of_slice}
-use native.Mathlib.Omega.{arith}
 use Rattle.gerg_model.proofs.mixture.first_bad_fraction.Goals as goal
 
 pub returns : goal.returns
 unfolding bad_fraction
-returns c = first_of_slice (λ x. not (finite x) || lt x +0) nan c.args.fractions.now _ (omega arith) (c.iter.ensures.rest ∙ sym (take_all _ _ (omega arith))) c.position.ensures.ran (λ x b q k. search (rules, tests)) c.unwrap_or.ensures
+returns c = first_of_slice (λ x. not (finite x) || lt x +0) nan c.args.fractions.now c.iter.ensures.rest c.position.ensures.ran (λ x b q k. search (rules, tests))

@@ -5,4 +5,4 @@ use Rattle.gerg_model.proofs.Laws.First.{first_of_range}
 use Rattle.gerg_model.proofs.mixture.first_bad_number.Goals as goal
 
 pub returns : goal.returns
-returns c = first_of_range (bad_number c.args.list.now) _ c.position.ensures.ran (λ x b q k. search (rules, tests)) c.unwrap_or.ensures
+returns c = first_of_range (bad_number c.args.list.now) _ c.position.ensures.ran (λ x b q k. search (rules, tests))

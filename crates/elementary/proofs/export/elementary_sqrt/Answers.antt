@@ -1,5 +1,0 @@
--- `elementary::export::elementary_sqrt` meets its contract, by the equations of its two calls. Assumes nothing.
-use Rattle.elementary.proofs.export.elementary_sqrt.Goals as goal
-
-pub returns : goal.returns
-returns c = cc
