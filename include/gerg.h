@@ -55,7 +55,7 @@ enum gerg_refusal {
     GERG_BAD_FILE = 1,                /* a record cut, missing, out of turn, with a count over its limit or of another revision, or bytes over: offset */
     GERG_BAD_TABLE = 2,               /* nonfinite bt, bv, gt, gv, f: 1 to 5; Tc or mass: 6; bt or bv not positive: 7; mNumb: 8 */
     GERG_BAD_LIST = 3,                /* list empty, over 21, a number unknown or repeated: first bad place from 0 */
-    GERG_BAD_FRACTIONS = 4,           /* length differs: list length; nonfinite or negative: first bad place from 0; sum not 1: list length */
+    GERG_BAD_FRACTIONS = 4,           /* length differs (of parts too): list length; nonfinite or negative: first bad place from 0; sum not 1: list length */
     GERG_BAD_REDUCING_VALUES = 5,     /* reducing values not finite and positive, or a gradient nonfinite */
     GERG_DENSITY_NONFINITE = 6,
     GERG_DENSITY_NOT_POSITIVE = 7,
@@ -75,7 +75,7 @@ enum gerg_refusal {
     GERG_ROOTS_OUT_OF_RANGE = 21,     /* T not in 230..350 or p not in 1e5..1e7 */
     GERG_ROOT_NOT_CONVERGED = 22,
     GERG_NO_ROOT = 23,
-    GERG_OUT_TOO_SHORT = 24,          /* doubles needed */
+    GERG_OUT_TOO_SHORT = 24,          /* doubles needed; of a chromatograph's list: places or bytes needed */
     GERG_BAD_SATURATION = 25,         /* not one positive fraction, or ends nonfinite or not rising */
     GERG_SATURATION_EXHAUSTED = 26,   /* limit made, or the middle falls on an end: trials */
     GERG_ZERO_SEED = 27,              /* states: the seed is 0 */

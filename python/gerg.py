@@ -19,9 +19,8 @@ import ctypes
 import os
 from typing import NamedTuple
 
-from gerg_archive import CAUSES, LIST_CAUSES  # for callers
+from gerg_archive import CAUSES  # for callers
 from gerg_archive import COMPONENTS, RANGES, ROOT, Refusal, fits, number_of, value_of
-from gerg_archive import EXPORTS as _EXPORTS
 
 DEFAULT_FILE = os.path.join(ROOT, "data", "gerg-2008.bin")
 

@@ -1,7 +1,4 @@
-"""What the calls of gerg.py share: the archive as a shared library, its exports, the components' names, the causes of refusals.
-
-Those of a chromatograph's lists, numbers 28 and 29, stand in a table of their own. A list is also refused under number 4 where its parts are not as many as its
-components, and under 24 with the places or bytes that it needs."""
+"""What the calls of gerg.py share: the archive as a shared library, its exports, the components' names, the causes of refusals."""
 import ctypes
 import os
 import subprocess
@@ -18,7 +15,7 @@ CAUSES = {
     1: "coefficient file: a record is cut, missing, out of turn, has a count over its limit or another revision, or bytes are left over",
     2: "coefficient table: a number that the equations cannot take",
     3: "component list empty, over 21 long, or with a number unknown or repeated",
-    4: "fractions: as many as components, each finite and not negative, adding up to 1 within 1e-9",
+    4: "fractions: as many as components (a list's parts too), each finite and not negative, adding up to 1 within 1e-9",
     5: "reducing values of this composition not finite and positive, or a gradient of them not finite",
     6: "density not finite",
     7: "density not positive",
@@ -42,9 +39,6 @@ CAUSES = {
     25: "saturation: one positive fraction and finite, rising ends are needed",
     26: "saturation: limit of trials reached, or no double left between the ends",
     27: "states: the seed is zero",
-}
-
-LIST_CAUSES = {
     28: "chromatograph's list: a record of another kind than 0x10, cut, or with a digit above 9",
     29: "chromatograph's list: the parts do not total 1,000,000",
 }
@@ -56,7 +50,7 @@ class Refusal(Exception):
     __module__ = "gerg"  # what a traceback calls it by
 
     def __init__(self, number, value):
-        self.number, self.value, self.cause = number, value, {**CAUSES, **LIST_CAUSES}[number]
+        self.number, self.value, self.cause = number, value, CAUSES[number]
         super().__init__(f"refused, number {number}, value {value}: {self.cause}")
 
 

@@ -1,10 +1,9 @@
 #!/usr/bin/env python3
 """What an auditor must believe: the files of definitions that a public contract or a promise reaches. Usage: tools/reading.py [--names | --table | --unnamed]
 
-A contract is a clause of a public function of gerg_calls, gerg_states, gerg_equilibrium or gerg_api, of a C export or of the programs `tablecheck` and `states`; a promise is a statement of a file named in PROMISES. From their names the search goes on through
+A contract is a clause of a public function of chromatograph, gerg_calls, gerg_states, gerg_equilibrium or gerg_api, of a C export or of the programs `tablecheck` and `states`; a promise is a statement of a file named in PROMISES. From their names the search goes on through
 the signatures and bodies of definitions, and through the declarations of structs and enums in src/. Of a law only its statement counts, and nothing follows a law that stands inside a
 definition: its proof is checked, and what it says is no part of the meaning. Names of the toolchain's own libraries end the search.
-What UNFINISHED names is not promised yet: the search does not begin there, and its definitions in files that are reached are not counted. To --unnamed it is as good as the rest.
 
 Prints a line for each file: its path and its lines, imports and blank lines aside (of a source file only its structs and enums, of a file of promises in proofs/ only its statements); --names lists what was reached in each, --table prints
 the rows of docs/READING.md, --unnamed adds what stands in specs/ of a crate with code and is named by no contract and no promise.
@@ -18,27 +17,22 @@ ROOT = os.path.dirname(os.path.dirname(os.path.abspath(__file__)))
 # The files whose statements are promised.
 PROMISES = (
     "crates/elementary_distance/specs/Distances.antt",
+    "crates/chromatograph/proofs/Promises/Reading.antt",
+    "crates/chromatograph/proofs/Promises/Writing.antt",
+    "crates/chromatograph/proofs/Promises/Back.antt",
     "crates/gerg_states/proofs/Promises.antt",
     "crates/gerg_api/proofs/Promises/Refusals.antt",
     "crates/gerg_api/proofs/Promises/Memory.antt",
     "crates/gerg_api/proofs/Promises/Searches.antt",
     "crates/gerg_api/proofs/Promises/Ranges.antt",
+    "crates/gerg_api/proofs/Promises/Lists.antt",
     "crates/gerg_api/proofs/Cases.antt",
 )
 # What a layer promises to those above: named, though no auditor has to read it.
 LAYER = re.compile(r"/proofs/(?:Promises|Laws/(?:Numbers|Answered|Cases)|Bounds)\.antt$")
 # The crates of which every public function is a public call, and the programs whose functions are promised.
-PUBLIC = ("gerg_calls", "gerg_states", "gerg_equilibrium", "gerg_api")
+PUBLIC = ("chromatograph", "gerg_calls", "gerg_states", "gerg_equilibrium", "gerg_api")
 PROGRAMS = ("tablecheck", "states")
-# Request 05, which has not landed: its promises, its exports, and what it declares in files of others.
-UNFINISHED = (
-    "crates/chromatograph/proofs/Promises/Reading.antt",
-    "crates/chromatograph/proofs/Promises/Writing.antt",
-    "crates/chromatograph/proofs/Promises/Back.antt",
-    "crates/gerg_api/proofs/Promises/Lists.antt",
-    "crates/gerg_api/src/lists.rt",
-)
-UNCOUNTED = re.compile(r"^(?:unfoldable |abbrev )*pub PassesRows3And4 :", re.M)
 TOKEN = re.compile(r"«[^»]*»|[^\s(){}.;,@\"«»⟦⟧]+")
 # What `rt` reads of the proof of one function: no promise.
 ANSWERS = re.compile(r"proofs\.(?:.*\.)?(?:Proof|Answers|Invariants)$")
@@ -74,8 +68,7 @@ class Antt:
     def __init__(self, path):
         self.path, source = path, text(path)
         self.names, self.modules = imports(source)
-        counted = "\n\n".join(part for part in re.split(r"\n\n+", source) if not UNCOUNTED.search(part))
-        self.lines = sum(1 for line in counted.splitlines() if line.strip() and not re.match(r"(?:unfoldable )?(?:pub )?use ", line))
+        self.lines = sum(1 for line in source.splitlines() if line.strip() and not re.match(r"(?:unfoldable )?(?:pub )?use ", line))
         self.found, self.public, sections = {}, [], []
         name, statement, inside, going = None, [], True, True
         self.stated = sum(1 for line in source.splitlines() if re.match(r"\s*--", line))
@@ -209,15 +202,13 @@ class Tree:
     def contracts(self, public):
         for crate in self.crates:
             for source in self.sources.get(crate, []):
-                if public and source.path in UNFINISHED:
-                    continue
                 for name, is_public, is_export, clauses in source.contracts:
                     if not public or is_export or crate in PROGRAMS or (is_public and crate in PUBLIC):
                         self.walk(source, clauses)
 
-    def promises(self, paths=PROMISES):
+    def promises(self):
         for file in self.files.values():
-            if file.path in paths:
+            if file.path in PROMISES:
                 for name in file.public:
                     self.visit(file, name, statement_only=not file.path.endswith("Distances.antt"))
 
@@ -249,7 +240,7 @@ def unnamed():
     """Declarations in specs/ of a crate with code that no contract, private ones too, and no promise reaches: (path, name)."""
     tree = Tree()
     tree.contracts(public=False)
-    tree.promises(PROMISES + UNFINISHED)
+    tree.promises()
     for file in [file for file in tree.files.values() if LAYER.search(file.path)]:
         for name in file.public:
             tree.visit(file, name, statement_only=True)

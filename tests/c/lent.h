@@ -11,17 +11,23 @@ static uint8_t file[LONGEST_FILE + 1];
 static size_t length;
 static double out[ROOM];
 static uint64_t counts[ROOM];
+static uint8_t listed[2 * ROOM];
+static uint32_t parts[ROOM];
 static int passed, failed;
 
 static const double LENT = -12345.678;
 static const uint64_t LENT_COUNT = 0x4142434445464748u;
+static const uint32_t LENT_PARTS = 0x51525354u;
+static const uint8_t LENT_BYTE = 0x6C;
 
 static void lend(void)
 {
     for (int k = 0; k < ROOM; k++) {
         out[k] = LENT;
         counts[k] = LENT_COUNT;
+        parts[k] = LENT_PARTS;
     }
+    memset(listed, LENT_BYTE, sizeof listed);
 }
 
 static void expect(const char *name, int right)
@@ -51,11 +57,23 @@ static int counts_lent_from(int place)
     return 1;
 }
 
+/* From these places on the bytes and the parts still hold what was lent. */
+static int lists_lent_from(int byte, int part)
+{
+    for (int k = byte; k < 2 * ROOM; k++)
+        if (listed[k] != LENT_BYTE)
+            return 0;
+    for (int k = part; k < ROOM; k++)
+        if (parts[k] != LENT_PARTS)
+            return 0;
+    return 1;
+}
+
 static void refused(const char *name, uint64_t answer, uint32_t number, uint32_t value)
 {
     char full[128];
     snprintf(full, sizeof full, "%s: number %" PRIu32 ", value %" PRIu32, name, gerg_number(answer), gerg_value(answer));
-    expect(full, gerg_number(answer) == number && gerg_value(answer) == value && lent_from(0) && counts_lent_from(0));
+    expect(full, gerg_number(answer) == number && gerg_value(answer) == value && lent_from(0) && counts_lent_from(0) && lists_lent_from(0, 0));
     lend();
 }
 

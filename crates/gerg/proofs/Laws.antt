@@ -7,5 +7,3 @@ pub mod Within
 pub mod Cases
 pub mod Inside
 pub mod Ranges
--- The number of a refusal is not below 6, which a chromatograph's list needs.
-pub mod LateNumbers

@@ -26,10 +26,6 @@ abbrev pub 70_MPa : Float
 abbrev pub Prepared : List ℕ → List ℕ → List Float → Type 0
 Prepared bytes list fractions = number_of (mixed_of bytes list fractions) ≡ 0
 
--- request 05: neither row 3's number nor row 4's
-abbrev pub PassesRows3And4 : ℕ → Type 0
-PassesRows3And4 n = (n ≡ 3 → ⊥) × (n ≡ 4 → ⊥)
-
 -- "Each root writes density, pressure, Z, Gibbs energy, then the coefficients": the density of root i in the lent memory
 abbrev pub written_density : List ℕ → List Float → ℕ → Float
 written_density list memory i = get_or memory (i * (4 + length list)) nan

@@ -3,5 +3,3 @@ pub mod After
 pub mod Carried
 pub mod Normal
 pub mod Inside
--- The number of a refusal is not below 6, which a chromatograph's list needs.
-pub mod LateAfter

@@ -183,7 +183,7 @@ module _ (t : Tables) (m : GergModel) (range : Range) (temperature target : Floa
 
   -- the rows of a density search end with 19
   pub number_at_most : number_of (density_of t m range temperature target o) ≤ 19
-  number_at_most = numbers.density_at_most_19 t m range temperature target o
+  number_at_most = (numbers.density_numbers t m range temperature target o).most
 
   -- "The value is 0 unless given": rows 18 and 19 alone have one
   pub no_value : (number_of (density_of t m range temperature target o) ≡ 18 → ⊥) → (number_of (density_of t m range temperature target o) ≡ 19 → ⊥) → value_of (density_of t m range temperature target o) ≡ 0

@@ -7,5 +7,3 @@ pub mod Values
 pub mod RootsRise
 -- what an accepted call tells
 pub mod Accepted
--- The number of a refusal is not below 6, which a chromatograph's list needs.
-pub mod LateNumbers

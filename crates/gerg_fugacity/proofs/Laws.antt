@@ -2,5 +2,3 @@
 pub mod Worked
 pub mod Numbers
 pub mod Memory
--- The number of a refusal is not below 6, which a chromatograph's list needs.
-pub mod LateNumbers

@@ -1,6 +1,6 @@
--- The ways of the code through the definitions (Sampling, Saturation), the ends that are sampled (Ends), the rows of a temperature's refusal (LateNumbers), what an answer reports (LateAnswered).
+-- The ways of the code through the definitions (Sampling, Saturation), the ends that are sampled (Ends), the rows of a temperature's refusal (Rows), what an answer reports (Reported).
 pub mod Sampling
 pub mod Saturation
 pub mod Ends
-pub mod LateNumbers
-pub mod LateAnswered
+pub mod Rows
+pub mod Reported

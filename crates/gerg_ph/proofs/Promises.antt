@@ -22,7 +22,7 @@ use Rattle.gerg_saturation.specs.declared.PureSaturation.{PureSaturation}
 use Rattle.gerg_saturation.proofs.Laws.Bounded.{few_of}
 use Rattle.gerg_saturation.proofs.Laws.Verdicts.{refused_is}
 use Rattle.gerg_ph.proofs.Laws.Ends.{ends_within}
-use Rattle.gerg_ph.proofs.Laws.LateAnswered.{reports}
+use Rattle.gerg_ph.proofs.Laws.Reported.{reports}
 
 module _ (t : Tables) (m : GergModel) (gradients : List (List Float)) (range : Range) (pressure lo hi : Float) (limit : ℕ) where
   -- "A saturation search makes at most 60 trials between its ends, whatever it is given and however it ends"
@@ -48,6 +48,10 @@ module _ (t : Tables) (m : GergModel) (gradients : List (List Float)) (range : R
   -- the table of causes ends with row 26
   pub number_at_most : number_of (pure_saturation_of t m gradients range pressure lo hi limit) ≤ 26
   number_at_most = (reports t m gradients range pressure lo hi limit).number
+
+  -- and rows 1 to 5 are none of its
+  pub number_late : (number_of (pure_saturation_of t m gradients range pressure lo hi limit) ≡ 0 → ⊥) → 5 < number_of (pure_saturation_of t m gradients range pressure lo hi limit)
+  number_late = (reports t m gradients range pressure lo hi limit).late
 
   -- so `% 2^32` loses nothing of it
   pub value_below : T (fits binary64 lo) → T (fits binary64 hi) → value_of (pure_saturation_of t m gradients range pressure lo hi limit) < 2 ^ 32

@@ -21,7 +21,7 @@ use Rattle.gerg_model.specs.MixtureCheck.{check_of}
 use Rattle.gerg_model.specs.Mixture.{model_of, reducing_sound}
 use Rattle.gerg_reducing.specs.Reducing.{gradients_of}
 use Rattle.gerg_model.proofs.Laws.Numbers.{mixture_at_most_4, mixture_value_at_most_21}
-use Rattle.gerg_prepared.specs.Mixed.{sound_mixture, reduced_mixture, checked_from, mixed_from, mixed_of}
+use Rattle.gerg_prepared.specs.Mixed.{sound_mixture, reduced_mixture, checked_from, mixed_from, mixed_of, PassesRows3And4}
 use Rattle.gerg_prepared.specs.declared.Mixed.{Mixed}
 
 -- the limits of a number and a value: those of row 5, and of row 1's offset
@@ -67,30 +67,27 @@ pub rows_value : (bytes list : List ℕ) (fractions : List Float) → value_of (
 rows_value bytes list fractions = let h = rows_value_at_most bytes list fractions in omega arith
 
 -- ---- a number that is neither row 3's nor row 4's
-abbrev pub NeitherRow3Nor4 : ℕ → Type 0
-NeitherRow3Nor4 n = (n ≡ 3 → ⊥) × (n ≡ 4 → ⊥)
-
-pub before_row_3 : (n : ℕ) → n < 3 → NeitherRow3Nor4 n
+pub before_row_3 : (n : ℕ) → n < 3 → PassesRows3And4 n
 before_row_3 n h = (λ e. omega arith, λ e. omega arith)
 
-pub after_row_4 : (n : ℕ) → 4 < n → NeitherRow3Nor4 n
+pub after_row_4 : (n : ℕ) → 4 < n → PassesRows3And4 n
 after_row_4 n h = (λ e. omega arith, λ e. omega arith)
 
-either_neither : (b : Bool) (x y : Result Mixed Refusal) → NeitherRow3Nor4 (number_of x) → NeitherRow3Nor4 (number_of y) → NeitherRow3Nor4 (number_of (pick b x y))
-either_neither true x y h g = h
-either_neither false x y h g = g
+either_passes : (b : Bool) (x y : Result Mixed Refusal) → PassesRows3And4 (number_of x) → PassesRows3And4 (number_of y) → PassesRows3And4 (number_of (pick b x y))
+either_passes true x y h g = h
+either_passes false x y h g = g
 
 -- components and fractions that rows 3 and 4 pass are refused by rows 1, 2 and 5 alone, whatever the file
 module _ (bytes list : List ℕ) (fractions : List Float) (sound : check_of list fractions ≡ passed) where
-  checked_neither : NeitherRow3Nor4 (number_of (checked_from (tables_of bytes).doubles list fractions))
+  checked_passes : PassesRows3And4 (number_of (checked_from (tables_of bytes).doubles list fractions))
   unfolding checked_from reduced_mixture sound_mixture
-  checked_neither = rw sound (either_neither _ (Ok _) (Err refusal.Reducing) (before_row_3 0 (omega arith)) (after_row_4 5 (omega arith)))
+  checked_passes = rw sound (either_passes _ (Ok _) (Err refusal.Reducing) (before_row_3 0 (omega arith)) (after_row_4 5 (omega arith)))
 
-  pub sound_rows : NeitherRow3Nor4 (number_of (mixed_of bytes list fractions))
+  pub sound_rows : PassesRows3And4 (number_of (mixed_of bytes list fractions))
   unfolding mixed_of mixed_from
   sound_rows =
-      then_holds (λ (x : Result Mixed Refusal). NeitherRow3Nor4 (number_of x)) (answer_of bytes) (λ length. checked_from (tables_of bytes).doubles list fractions)
-      (λ r e. let most = file_number bytes r e in before_row_3 _ (omega arith)) (λ length e. checked_neither)
+      then_holds (λ (x : Result Mixed Refusal). PassesRows3And4 (number_of x)) (answer_of bytes) (λ length. checked_from (tables_of bytes).doubles list fractions)
+      (λ r e. let most = file_number bytes r e in before_row_3 _ (omega arith)) (λ length e. checked_passes)
 
 -- a row from 6 on is none of rows 1 to 5
 pub late : {A : Type 0} (bytes list : List ℕ) (fractions : List Float) (n : ℕ) → 5 < n → number_of (mixed_of bytes list fractions) ≡ n → A

@@ -1,5 +1,5 @@
 -- Rows 1 to 5, which every public call meets first, in their order, and the model of a mixture that passes them.
-use Rattle.std.specs.Prelude.{List, ℕ, Float, Result, Ok, Err}
+use Rattle.std.specs.Prelude.{◌≡◌, List, ℕ, Float, Result, Ok, Err}
 use Rattle.numerics.specs.Double.{pick}
 use Rattle.gerg_refusals.specs.Answer.{and_then}
 use Rattle.gerg_refusals.specs.declared.Refusal.{Refusal}
@@ -30,3 +30,7 @@ mixed_from doubles answer list fractions = and_then answer (λ length. checked_f
 -- "A public call for a mixture starts from the file's bytes, list and fractions, and meets rows 1 to 5 first, in their order"
 unfoldable pub mixed_of : List ℕ → List ℕ → List Float → Result Mixed Refusal
 mixed_of bytes list fractions = mixed_from (tables_of bytes).doubles (answer_of bytes) list fractions
+
+-- request 05: neither row 3's number nor row 4's
+abbrev pub PassesRows3And4 : ℕ → Type 0
+PassesRows3And4 n = (n ≡ 3 → ⊥) × (n ≡ 4 → ⊥)

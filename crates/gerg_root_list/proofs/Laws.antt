@@ -1,9 +1,8 @@
 -- The answer
 pub mod Answering
--- the loop over a scan's roots, by what numbers roots are refused, how many are kept, and the value of an answer
+-- the loop over a scan's roots, what holds of the refusals, how many are kept, and the value of an answer
 pub mod Keeping
 pub mod KeptRefusals
-pub mod KeptNumbers
 pub mod KeptFew
 pub mod Told
 pub mod Envelope

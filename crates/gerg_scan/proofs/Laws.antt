@@ -1,4 +1,2 @@
--- By what numbers a scan refuses: not below 6, which a chromatograph's list needs.
+-- By what rows a scan of the equation refuses.
 pub mod SampleRows
-pub mod SampleNumbers
-pub mod LateSampleNumbers

@@ -3,6 +3,5 @@ pub mod Answers
 pub mod Loops
 pub mod ScanFew
 pub mod ScanRefusals
-pub mod ScanNumbers
 pub mod HalvingStays
 pub mod ScanRises

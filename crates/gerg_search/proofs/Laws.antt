@@ -12,5 +12,3 @@ pub mod Whole
 pub mod Ahead
 pub mod Standing
 pub mod Outcomes
--- The number of a refusal is not below 6, which a chromatograph's list needs.
-pub mod LateEnded

@@ -134,8 +134,8 @@ impl Arguments {
         Range::ALL.into_iter().find(|each| each.name() == word).ok_or_else(unknown)
     }
 
-    pub fn mixture(&self) -> Result<Mixture, Fault> {
-        let text = self.text("--mix").ok_or_else(|| self.fault("--mix is missing, as --mix methane=0.9,ethane=0.1"))?;
+    /// What --mix says.
+    pub fn mixture(&self, text: &str) -> Result<Mixture, Fault> {
         let parts = text.split(',').enumerate().map(|(place, part)| self.part(place + 1, part));
         Ok(Mixture::new(parts.collect::<Result<Vec<_>, Fault>>()?))
     }

@@ -15,20 +15,19 @@ pub fn run(words: &[String]) -> Result<String, Fault> {
         return Err(Fault::usage("no command; see gerg --help"));
     };
     let parse = |own: &[&str]| Arguments::parse(command, rest, &[own, &OUTPUT].concat());
-    let with_gas = |own: &[&str]| Arguments::parse(command, rest, &[own, &OUTPUT, &["--list"]].concat());
     match command.as_str() {
         "--help" | "-h" | "help" => Ok(USAGE.to_string()),
         "components" => Ok(components()),
         "check" => check(&parse(&[])?),
-        "properties" => properties(&with_gas(&["--mix", "--t", "--rho", "--p", "--range", "--all"])?),
-        "fugacity" => fugacity(&with_gas(&["--mix", "--t", "--rho", "--p", "--range"])?),
-        "density" => density(&with_gas(&["--mix", "--t", "--p", "--lo", "--hi", "--limit", "--tolerance", "--range", "--all"])?),
-        "roots" => roots(&with_gas(&["--mix", "--t", "--p"])?),
-        "saturation" => saturation(&with_gas(&["--mix", "--p", "--lo", "--hi", "--limit"])?),
-        "curve" => curve::run(&Arguments::parse(command, rest, &["--mix", "--t", "--from", "--to", "--points", "--range", "--out", "--file", "--list"])?),
+        "properties" => properties(&parse(&["--mix", "--list", "--t", "--rho", "--p", "--range", "--all"])?),
+        "fugacity" => fugacity(&parse(&["--mix", "--list", "--t", "--rho", "--p", "--range"])?),
+        "density" => density(&parse(&["--mix", "--list", "--t", "--p", "--lo", "--hi", "--limit", "--tolerance", "--range", "--all"])?),
+        "roots" => roots(&parse(&["--mix", "--list", "--t", "--p"])?),
+        "saturation" => saturation(&parse(&["--mix", "--list", "--p", "--lo", "--hi", "--limit"])?),
+        "curve" => curve::run(&Arguments::parse(command, rest, &["--mix", "--list", "--t", "--from", "--to", "--points", "--range", "--out", "--file"])?),
         "list" => lists::run(&Arguments::parse(command, rest, &["--mix", "--list", "--out", "--json", "--bits"])?),
         "state" => states::one(&Arguments::parse(command, rest, &["--seed", "--n", "--json", "--bits"])?),
-        "states" => states::run(&Arguments::parse(command, rest, &["--mix", "--seed", "--states", "--first", "--jobs", "--file", "--json", "--list"])?),
+        "states" => states::run(&Arguments::parse(command, rest, &["--mix", "--list", "--seed", "--states", "--first", "--jobs", "--file", "--json"])?),
         other => Err(Fault::usage(format!("'{other}' is no command; see gerg --help"))),
     }
 }

@@ -17,9 +17,10 @@ pub enum Gas {
 impl Gas {
     pub fn read(arguments: &Arguments) -> Result<Gas, Fault> {
         match (arguments.text("--mix"), arguments.text("--list")) {
+            (Some(text), None) => Ok(Gas::Mix(arguments.mixture(text)?)),
             (None, Some(path)) => Gas::from_file(path, arguments),
             (Some(_), Some(_)) => Err(arguments.fault("--mix and --list are both given; one is the gas")),
-            (_, None) => Ok(Gas::Mix(arguments.mixture()?)),
+            (None, None) => Err(arguments.fault("--mix or --list is missing, as --mix methane=0.9,ethane=0.1")),
         }
     }
 

@@ -2,22 +2,19 @@
 use std::fmt;
 
 macro_rules! causes {
-    ($($variant:ident = $number:literal $words:literal,)* [$($of_lists:ident = $list_number:literal $list_words:literal,)*]) => {
-        /// The causes of document 01's table, by number, and the two of a chromatograph's lists.
+    ($($variant:ident = $number:literal $words:literal,)*) => {
+        /// The causes of document 01's table, by number.
         #[derive(Clone, Copy, Debug, PartialEq, Eq, Hash)]
         #[repr(u32)]
-        pub enum Cause { $(#[doc = $words] $variant = $number,)* $(#[doc = $list_words] $of_lists = $list_number,)* }
+        pub enum Cause { $(#[doc = $words] $variant = $number,)* }
 
         impl Cause {
-            /// All but those of lists, in the order of their numbers.
-            pub const ALL: [Cause; 27] = [$(Cause::$variant,)*];
-
-            /// Those of a chromatograph's lists, which only `read_list` and `write_list` answer.
-            pub const LISTS: [Cause; 2] = [$(Cause::$of_lists,)*];
+            /// All, in the order of their numbers.
+            pub const ALL: [Cause; 29] = [$(Cause::$variant,)*];
 
             /// In plain words.
             pub fn words(self) -> &'static str {
-                match self { $(Cause::$variant => $words,)* $(Cause::$of_lists => $list_words,)* }
+                match self { $(Cause::$variant => $words,)* }
             }
         }
     };
@@ -27,7 +24,7 @@ causes! {
     BadFile = 1 "coefficient file: a record is cut, missing, out of turn, has a count over its limit or another revision, or bytes are left over",
     BadTable = 2 "coefficient table: a number that the equations cannot take",
     BadList = 3 "component list empty, over 21 long, or with a number unknown or repeated",
-    BadFractions = 4 "fractions: as many as components, each finite and not negative, adding up to 1 within 1e-9",
+    BadFractions = 4 "fractions: as many as components (a list's parts too), each finite and not negative, adding up to 1 within 1e-9",
     BadReducingValues = 5 "reducing values of this composition not finite and positive, or a gradient of them not finite",
     DensityNonfinite = 6 "density not finite",
     DensityNotPositive = 7 "density not positive",
@@ -51,15 +48,13 @@ causes! {
     BadSaturation = 25 "saturation: one positive fraction and finite, rising ends are needed",
     SaturationExhausted = 26 "saturation: limit of trials reached, or no double left between the ends",
     ZeroSeed = 27 "states: the seed is zero",
-    [
-        BadRecord = 28 "chromatograph's list: a record of another kind than 0x10, cut, or with a digit above 9",
-        BadTotal = 29 "chromatograph's list: the parts do not total 1,000,000",
-    ]
+    BadRecord = 28 "chromatograph's list: a record of another kind than 0x10, cut, or with a digit above 9",
+    BadTotal = 29 "chromatograph's list: the parts do not total 1,000,000",
 }
 
 impl Cause {
     fn of_number(number: u32) -> Option<Cause> {
-        Cause::ALL.into_iter().chain(Cause::LISTS).find(|each| *each as u32 == number)
+        Cause::ALL.into_iter().find(|each| *each as u32 == number)
     }
 }
 
@@ -77,7 +72,7 @@ impl Refusal {
         if number == 0 {
             return Ok(value);
         }
-        let cause = Cause::of_number(number).expect("the archive answers one of the 27 numbers, or of the two of lists");
+        let cause = Cause::of_number(number).expect("the archive answers one of the table's numbers");
         Err(Refusal { cause, value })
     }
 
@@ -98,7 +93,7 @@ impl Refusal {
             Cause::BadList => Some(format!("at place {value} from 0")),
             Cause::BadFractions => Some(format!("{value}, the first bad place from 0, or the list's length where length or sum is wrong")),
             Cause::Collapsed | Cause::LimitReached | Cause::SaturationExhausted => Some(format!("after {value} trials")),
-            Cause::OutTooShort => Some(format!("{value} doubles needed")),
+            Cause::OutTooShort => Some(format!("{value} doubles, places or bytes needed")),
             _ => None,
         }
     }

@@ -19,9 +19,9 @@ fn components_have_the_numbers_1_to_21_and_distinct_names() {
 }
 
 #[test]
-fn causes_have_the_numbers_1_to_27() {
+fn causes_have_the_numbers_1_to_29() {
     let numbers: Vec<u32> = Cause::ALL.iter().map(|each| *each as u32).collect();
-    assert_eq!(numbers, (1..=27).collect::<Vec<u32>>());
+    assert_eq!(numbers, (1..=29).collect::<Vec<u32>>());
 }
 
 /// data/README.md: the NIST AGA8 example, 50 MPa, is in the extended range alone; near it, at 30 MPa, the state is accepted in the normal one.

@@ -22,11 +22,6 @@ fn shared(n: usize) -> (Vec<Component>, Vec<u32>) {
 }
 
 #[test]
-fn causes_of_lists_have_the_numbers_28_and_29() {
-    assert_eq!(Cause::LISTS.map(|each| each as u32), [28, 29]);
-}
-
-#[test]
 fn a_list_is_a_mixture_with_its_parts() {
     let list = gerg::read_list(&TWO).unwrap();
     assert_eq!(list.mixture, Mixture::new([(Methane, 0.901234), (Ethane, 0.098766)]));

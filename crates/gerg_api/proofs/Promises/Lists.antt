@@ -15,11 +15,12 @@ use Rattle.gerg_tables.specs.declared.Tables.{Tables}
 use Rattle.gerg_coefficients.specs.Answer.{tables_of}
 use Rattle.gerg.specs.Helmholtz.{normal_range}
 use Rattle.gerg.specs.declared.Range.{Range}
+use Rattle.gerg.proofs.Laws.Numbers.{evaluate_numbers}
 use Rattle.gerg_search.specs.declared.Options.{Options}
-use Rattle.gerg_density.proofs.Laws.LateNumbers.{density_late}
-use Rattle.gerg_flash.proofs.Laws.LateNumbers.{roots_late}
-use Rattle.gerg_ph.proofs.Laws.LateAnswered.{saturation_late}
-use Rattle.gerg_prepared.specs.Mixed.{mixed_of}
+use Rattle.gerg_density.proofs.Laws.Numbers.{density_numbers}
+use Rattle.gerg_flash.proofs.Laws.Numbers.{roots_numbers}
+use Rattle.gerg_ph.proofs.Promises as halving
+use Rattle.gerg_prepared.specs.Mixed.{mixed_of, PassesRows3And4}
 use Rattle.gerg_prepared.specs.declared.Mixed.{Mixed}
 use Rattle.gerg_prepared.proofs.Numbers.{before_row_3, after_row_4, sound_rows}
 use Rattle.gerg_refusals.proofs.Then.{then_holds}
@@ -29,13 +30,12 @@ use Rattle.gerg_refusals.specs.Answer.{number_of, passed}
 use Rattle.gerg_refusals.specs.Refusal as of_refusal
 use Rattle.gerg_answers.proofs.Laws.{code_lem, code_number, reported_below}
 use Rattle.gerg_calls.specs.Calls.{properties_in, fugacity_in, density_in}
-use Rattle.gerg_calls.proofs.Laws.LateAfter.{properties_numbers, fugacity_numbers}
+use Rattle.gerg_calls.proofs.Laws.After.{fugacity_numbers}
 use Rattle.gerg_calls.proofs.Laws.Carried.{properties_through, fugacity_through, density_through}
 use Rattle.gerg_equilibrium.specs.Equilibrium.{roots_call, saturation_call}
 use Rattle.gerg_equilibrium.proofs.Laws.Carried.{roots_through, saturation_through}
 use Rattle.gerg_states.specs.States.{run_refusal}
 use Rattle.gerg_states.proofs.Promises.{zero_seed_first, then_rows}
-use Rattle.gerg_api.specs.Promised.{PassesRows3And4}
 use Rattle.std.specs.Prelude.{Result, Ok, Err}
 use Rattle.gerg_refusals.specs.declared.Refusal.{Refusal}
 
@@ -98,7 +98,7 @@ module _ (bytes lentList lentParts : List ℕ) (lentFractions : List Float) (acc
     pub properties_passes : PassesRows3And4 (number_of (properties_in file list fractions range temperature rho))
     properties_passes =
         properties_through file list fractions (λ a. PassesRows3And4 (number_of a)) range temperature rho rows_refusal
-        (λ m e. later_rows _ (properties_numbers t m.model m.gradients range temperature rho).late)
+        (λ m e. later_rows _ (evaluate_numbers t m.model range temperature rho).late)
 
     pub fugacity_passes : (out : List Float) → PassesRows3And4 (number_of (fugacity_in file list fractions range temperature rho out))
     fugacity_passes out =
@@ -108,17 +108,17 @@ module _ (bytes lentList lentParts : List ℕ) (lentFractions : List Float) (acc
   pub density_passes : (range : Range) (temperature target : Float) (o : Options) → PassesRows3And4 (number_of (density_in file list fractions range temperature target o))
   density_passes range temperature target o =
       density_through file list fractions (λ a l. PassesRows3And4 (number_of a)) range temperature target o rows_refusal
-      (λ m e. later_rows _ (density_late t m.model range temperature target o))
+      (λ m e. later_rows _ (density_numbers t m.model range temperature target o).late)
 
   pub roots_passes : (temperature pressure : Float) (out : List Float) → PassesRows3And4 (number_of (roots_call file list fractions temperature pressure out))
   roots_passes temperature pressure out =
       roots_through file list fractions (λ a l. PassesRows3And4 (number_of a)) temperature pressure out rows_refusal
-      (λ m e. later_rows _ (roots_late t m.model m.gradients normal_range temperature pressure (length out)))
+      (λ m e. later_rows _ (roots_numbers t m.model m.gradients normal_range temperature pressure (length out)).late)
 
   pub saturation_passes : (pressure lo hi : Float) (limit : ℕ) → PassesRows3And4 (number_of (saturation_call file list fractions pressure lo hi limit))
   saturation_passes pressure lo hi limit =
       saturation_through file list fractions (λ a l. PassesRows3And4 (number_of a)) pressure lo hi limit rows_refusal
-      (λ m e. later_rows _ (saturation_late t m.model m.gradients normal_range pressure lo hi limit))
+      (λ m e. later_rows _ (halving.number_late t m.model m.gradients normal_range pressure lo hi limit))
 
   -- `count_refusals`: row 27 comes first
   pub run_passes : (seed : ℕ) → PassesRows3And4 (number_of (run_refusal file list fractions seed))

@@ -18,7 +18,7 @@ use Rattle.gerg_density.specs.declared.DensityResult.{DensityResult}
 use Rattle.gerg_density.proofs.Laws.Numbers as numbers
 use Rattle.gerg_density.proofs.Promises as search
 use Rattle.gerg_flash.specs.Roots.{roots_of}
-use Rattle.gerg_flash.proofs.Laws.Numbers.{roots_at_most_24}
+use Rattle.gerg_flash.proofs.Laws.Numbers.{roots_numbers}
 use Rattle.gerg_flash.proofs.Promises as scan
 use Rattle.gerg_saturation.specs.declared.PureSaturation.{PureSaturation}
 use Rattle.gerg_ph.proofs.Promises as halving
@@ -111,7 +111,7 @@ module _ (bytes list : List ℕ) (fractions : List Float) where
       pub fugacity_number : number_of (fugacity_in bytes list fractions range temperature rho out) ≤ 24
       fugacity_number =
           fugacity_through bytes list fractions (λ a l. number_of a ≤ 24) range temperature rho out (λ r e. early 24 (omega arith) r e) (λ m e. omega arith)
-          (λ m e. omega (arith, laws.fugacity_number t m.model m.gradients range temperature rho))
+          (λ m e. omega (arith, (laws.fugacity_numbers t m.model m.gradients range temperature rho).most))
 
       pub fugacity_value : value_of (fugacity_in bytes list fractions range temperature rho out) < 2 ^ 32
       fugacity_value =
@@ -124,7 +124,7 @@ module _ (bytes list : List ℕ) (fractions : List Float) where
       fugacity_needed =
           fugacity_through bytes list fractions (λ a l. number_of a ≡ 24 → value_of a ≡ length list) range temperature rho out
           (λ r e. row_late 24 (omega arith) r e) (λ m e h. (ready bytes list fractions m e).components)
-          (λ m e h. absurd (twelve (laws.fugacity_number t m.model m.gradients range temperature rho) h))
+          (λ m e h. absurd (twelve ((laws.fugacity_numbers t m.model m.gradients range temperature rho).most) h))
         where
           twelve : {n : ℕ} → n ≤ 12 → n ≡ 24 → ⊥
           twelve a b = omega arith
@@ -142,7 +142,7 @@ module _ (bytes list : List ℕ) (fractions : List Float) where
   module _ (range : Range) (temperature target : Float) (o : Options) where
     pub density_number : number_of (density_in bytes list fractions range temperature target o) ≤ 19
     density_number =
-        density_through bytes list fractions (λ a l. number_of a ≤ 19) range temperature target o (λ r e. early 19 (omega arith) r e) (λ m e. numbers.density_at_most_19 t m.model range temperature target o)
+        density_through bytes list fractions (λ a l. number_of a ≤ 19) range temperature target o (λ r e. early 19 (omega arith) r e) (λ m e. (numbers.density_numbers t m.model range temperature target o).most)
 
     pub density_value : Doubles o → value_of (density_in bytes list fractions range temperature target o) < 2 ^ 32
     density_value doubles =
@@ -162,7 +162,7 @@ module _ (bytes list : List ℕ) (fractions : List Float) where
     pub roots_number : number_of (roots_call bytes list fractions temperature pressure out) ≤ 24
     roots_number =
         roots_through bytes list fractions (λ a l. number_of a ≤ 24) temperature pressure out (λ r e. early 24 (omega arith) r e)
-        (λ m e. roots_at_most_24 t m.model m.gradients normal_range temperature pressure (length out))
+        (λ m e. (roots_numbers t m.model m.gradients normal_range temperature pressure (length out)).most)
 
     pub roots_value : value_of (roots_call bytes list fractions temperature pressure out) < 2 ^ 32
     roots_value =

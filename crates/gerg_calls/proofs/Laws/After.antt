@@ -1,8 +1,7 @@
 -- What follows rows 1 to 5: numbers, values and lent memory of the calls. Assumes nothing.
 use mathlib.Core.Path.{◌≡◌, refl, ◌∙◌, subst}
 use mathlib.Core.List.{List}
-use Prim.Native.Nat.{ℕ, ◌≤◌}
-use native.Mathlib.Omega.{arith}
+use Prim.Native.Nat.{ℕ}
 use lib.Ieee.{Float, nan}
 use lib.ListN.{get_or}
 use Rattle.std.specs.Prelude.{Result, Ok, Err}
@@ -21,7 +20,7 @@ use Rattle.gerg_density.specs.Density.{density_of}
 use Rattle.gerg_search.specs.declared.Options.{Options}
 use Rattle.gerg_prepared.specs.Mixed.{mixed_of}
 use Rattle.gerg_prepared.specs.declared.Mixed.{Mixed}
-use Rattle.gerg.proofs.Laws.Numbers.{evaluate_at_most_12, evaluate_no_value}
+use Rattle.gerg.proofs.Laws.Numbers.{Late, late_none, evaluate_numbers, evaluate_no_value}
 use Rattle.gerg_fugacity.proofs.Laws.Numbers as numbers
 use Rattle.gerg_fugacity.proofs.Laws.Memory.{fugacity_leaves, fugacity_writes}
 use Rattle.gerg_prepared.proofs.Laws.{same_mixed}
@@ -57,13 +56,13 @@ module _ (t : Tables) (m : GergModel) (gradients : List (List Float)) (range : R
   after_holds P (Ok s) f g = g s refl (fugacity_of t m gradients s temperature rho) refl
   after_holds P (Err r) f g = f r refl
 
-  pub fugacity_number : number_of (fugacity_after t m gradients temperature rho e) ≤ 12
-  fugacity_number =
-      after_holds (λ a. number_of a ≤ 12) e (λ r q. subst (λ (a : Result GergState Refusal). number_of a ≤ 12) q (evaluate_at_most_12 t m range temperature rho))
-      (λ s q c h. go s c (subst (λ (c : Result (Unit {0}) Refusal). number_of c ≤ 12) h (numbers.fugacity_at_most_12 t m gradients s temperature rho)))
+  pub fugacity_numbers : Late 12 (number_of (fugacity_after t m gradients temperature rho e))
+  fugacity_numbers =
+      after_holds (λ a. Late 12 (number_of a)) e (λ r q. subst (λ (a : Result GergState Refusal). Late 12 (number_of a)) q (evaluate_numbers t m range temperature rho))
+      (λ s q c h. go s c (subst (λ (c : Result (Unit {0}) Refusal). Late 12 (number_of c)) h (numbers.fugacity_numbers t m gradients s temperature rho)))
     where
-      go : (s : GergState) (c : Result (Unit {0}) Refusal) → number_of c ≤ 12 → number_of (and_then c (λ passed. Ok s)) ≤ 12
-      go s (Ok u) h = omega arith
+      go : (s : GergState) (c : Result (Unit {0}) Refusal) → Late 12 (number_of c) → Late 12 (number_of (and_then c (λ passed. Ok s)))
+      go s (Ok u) h = late_none 12
       go s (Err r) h = h
 
   -- its value is that of the state's answer: coefficients are refused with none

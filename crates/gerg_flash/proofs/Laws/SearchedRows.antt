@@ -15,11 +15,10 @@ use Rattle.gerg_reducing.specs.declared.GergModel.{GergModel}
 use Rattle.gerg.specs.declared.GergState.{GergState}
 use Rattle.gerg.specs.declared.Range.{Range}
 use Rattle.gerg.specs.Evaluate.{evaluate_of}
-use Rattle.gerg.proofs.Laws.LateNumbers as late
-use Rattle.gerg.proofs.Laws.LateNumbers.{Row}
+use Rattle.gerg.proofs.Laws.Numbers as late
+use Rattle.gerg.proofs.Laws.Numbers.{Row}
 use Rattle.gerg_fugacity.specs.Fugacity.{fugacity_of}
-use Rattle.gerg_fugacity.proofs.Laws.LateNumbers.{fugacity_numbers}
-use Rattle.gerg_fugacity.proofs.Laws.Numbers.{fugacity_value_0}
+use Rattle.gerg_fugacity.proofs.Laws.Numbers.{fugacity_numbers, fugacity_value_0}
 use Rattle.gerg_grid.specs.Grid.{grid_of}
 use Rattle.gerg_scan_steps.specs.Scan.{scan_of}
 use Rattle.gerg_scan.specs.Sampling.{sample_of}

@@ -12,7 +12,7 @@ use Rattle.gerg_refusals.specs.declared.Refusal.TheVariants as refusal
 use Rattle.gerg_tables.specs.declared.Tables.{Tables}
 use Rattle.gerg_reducing.specs.declared.GergModel.{GergModel}
 use Rattle.gerg.specs.declared.Range.{Range}
-use Rattle.gerg.proofs.Laws.LateNumbers.{value_0}
+use Rattle.gerg.proofs.Laws.Numbers.{value_0}
 use Rattle.gerg_root_list.specs.RootList.{roots_in, needed, answer_of, beyond_five, within_envelope}
 use Rattle.gerg_root_list.proofs.Laws.Told.{Told, told_refused, told_answer}
 use Rattle.gerg_flash.specs.Roots.{searched_of, roots_of}

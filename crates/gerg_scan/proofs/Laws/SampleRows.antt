@@ -8,7 +8,7 @@ use Rattle.gerg_reducing.specs.declared.GergModel.{GergModel}
 use Rattle.gerg.specs.declared.Range.{Range}
 use Rattle.gerg_derivatives.specs.declared.derivatives.GergDerivatives.{GergDerivatives}
 use Rattle.gerg.specs.Helmholtz.{helmholtz_of}
-use Rattle.gerg.proofs.Laws.LateNumbers.{Row, Derived, helmholtz_rows}
+use Rattle.gerg.proofs.Laws.Numbers.{Row, Derived, helmholtz_rows}
 use Rattle.gerg_scan_steps.specs.Scan.{scan_of}
 use Rattle.gerg_scan_steps.proofs.Laws.ScanRefusals.{scan_refusal}
 use Rattle.gerg_scan.specs.Sampling.{sample_by, sample_of}

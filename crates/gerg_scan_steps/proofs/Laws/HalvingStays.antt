@@ -1,6 +1,6 @@
 -- The best point of a crossing lies between its ends, whatever the samples are. Assumes nothing.
 use mathlib.Core.Path.{◌≡◌, refl, sym}
-use mathlib.Core.Bool.{Bool, true, false, ◌||◌}
+use mathlib.Core.Bool.{Bool, true, false}
 use Prim.Native.Nat.{◌≤◌, ◌<◌}
 use native.Mathlib.Nat.{le_trans, le_refl, le_of_lt}
 use native.Mathlib.Omega.{arith}

@@ -1,4 +1,4 @@
--- Every search ends, whatever its options and verdicts: its last step accepts or refuses. Its refusal is that of its last trial or its own, which is of a row from 1 to 19 and has a value in 18 and 19 alone. Assumes nothing.
+-- Every search ends, whatever its options and verdicts: its last step accepts or refuses. Its refusal is that of its last trial or its own, which is of a row from 6 to 19 and has a value in 18 and 19 alone. Assumes nothing.
 use mathlib.Core.Path.{◌≡◌, refl, sym, ap, ◌∙◌, subst}
 use mathlib.Core.Bool.{Bool, true, false, not, ◌||◌}
 use mathlib.Core.List.{[]}
@@ -173,7 +173,7 @@ refusal_holds P own high target o v trials r e = elim (failed_by high target o v
 
 -- ---- the numbers of refusals: those of the trials, rows 13, 14, 16, 18 and 19
 abbrev pub Row : Refusal → Type 0
-Row r = (0 < number_of r) × (number_of r ≤ 19)
+Row r = (5 < number_of r) × (number_of r ≤ 19)
 
 own_rows : Own Row
 own_rows = record {

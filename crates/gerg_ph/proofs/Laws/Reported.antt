@@ -1,14 +1,13 @@
 -- What the answer of a saturation search reports. Assumes nothing.
-use mathlib.Core.Path.{◌≡◌, refl}
+use mathlib.Core.Path.{refl}
 use mathlib.Core.Bool.{Bool, true, false}
 use mathlib.Core.List.{List, []}
-use Prim.Native.Nat.{ℕ, ◌<◌, zero-le}
+use Prim.Native.Nat.{ℕ, zero-le}
 use native.Mathlib.Omega.{arith}
 use lib.Ieee.{Float}
 use lib.ListN.{length}
 use Rattle.std.specs.Prelude.{Err, IfErr}
 use Rattle.numerics.specs.Double.{pick}
-use Rattle.gerg_refusals.specs.Answer.{number_of}
 use Rattle.gerg_refusals.specs.declared.Refusal.TheVariants as refusal
 use Rattle.gerg_tables.specs.declared.Tables.{Tables}
 use Rattle.gerg_reducing.specs.declared.GergModel.{GergModel}
@@ -17,7 +16,7 @@ use Rattle.gerg_saturation.specs.Checks.{saturation_refused}
 use Rattle.gerg_saturation.specs.Halvings.{search_of, trials_of}
 use Rattle.gerg_saturation.proofs.Laws.Reported.{Row, LateReports, late_reports, search_row}
 use Rattle.gerg_ph.specs.Saturation.{verdict_at, interval_of, pure_saturation_of, saturation_trials}
-use Rattle.gerg_ph.proofs.Laws.LateNumbers.{verdict_early}
+use Rattle.gerg_ph.proofs.Laws.Rows.{verdict_early}
 
 module _ (t : Tables) (m : GergModel) (gradients : List (List Float)) (range : Range) (pressure lo hi : Float) (limit : ℕ) where
   row : IfErr (pure_saturation_of t m gradients range pressure lo hi limit) (Row (length (saturation_trials t m gradients range pressure lo hi limit)))
@@ -33,7 +32,3 @@ module _ (t : Tables) (m : GergModel) (gradients : List (List Float)) (range : R
 
   pub reports : LateReports (pure_saturation_of t m gradients range pressure lo hi limit) (length (saturation_trials t m gradients range pressure lo hi limit))
   reports = late_reports (pure_saturation_of t m gradients range pressure lo hi limit) (length (saturation_trials t m gradients range pressure lo hi limit)) row
-
-  -- refused by no row before 6, which a chromatograph's list needs
-  pub saturation_late : (number_of (pure_saturation_of t m gradients range pressure lo hi limit) ≡ 0 → ⊥) → 5 < number_of (pure_saturation_of t m gradients range pressure lo hi limit)
-  saturation_late = reports.late

@@ -99,7 +99,7 @@ def faults(folder):
     for command in (["list"], ["properties", *at], ["fugacity", *at], ["density", "--t", "300", "--p", "1e6"], ["roots", "--t", "300", "--p", "1e6"],
                     ["saturation", "--p", "1e6"], ["curve", "--t", "300"], ["states", "--seed", "1", "--states", "1"]):  # fmt: skip
         fault(2, f"{command[0]}: --mix and --list are both given", *command, *GAS, "--list", two)
-        fault(2, f"{command[0]}: --mix is missing, as --mix methane=0.9,ethane=0.1\n", *command)
+        fault(2, f"{command[0]}: --mix or --list is missing", *command)
         fault(2, "/nonexistent: No such file", *command, "--list", "/nonexistent")
     fault(2, "list: --list has no value", "list", "--list")
     fault(2, "list: --list is given twice", "list", "--list", two, "--list", two)
@@ -116,7 +116,7 @@ def faults(folder):
     expect("the help names it", "--list FILE" in answered("--help") and "\n  gerg list " in answered("--help"))
 
 
-def command_line(folder):
+def lists(folder):
     shown(folder)
     written(folder)
     in_commands(folder)

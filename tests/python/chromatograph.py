@@ -67,6 +67,6 @@ def in_calls():
         expect(f"writing, number {number}, leaves what was lent", bytes(lent) == b"\x6c" * 12)
 
 
-def module():
+def lists():
     read_and_written()
     in_calls()

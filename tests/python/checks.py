@@ -1,0 +1,30 @@
+"""The Python module under test, and what is expected of it."""
+import os
+import sys
+
+ROOT = os.path.dirname(os.path.dirname(os.path.dirname(os.path.abspath(__file__))))
+sys.path.insert(0, os.path.join(ROOT, "python"))
+import gerg
+import gerg_archive
+
+passed = failed = 0
+
+
+def expect(name, right):
+    global passed, failed
+    passed, failed = passed + bool(right), failed + (not right)
+    if not right:
+        print(f"FAILED {name}")
+
+
+def text(path):
+    with open(os.path.join(ROOT, path), encoding="utf-8") as source:
+        return source.read()
+
+
+def refused(name, number, value, call, *arguments, **named):
+    try:
+        call(*arguments, **named)
+        expect(f"{name}: accepted", False)
+    except gerg.Refusal as refusal:
+        expect(f"{name}: {refusal}", (refusal.number, refusal.value) == (number, value) and refusal.cause == gerg.CAUSES[number])
