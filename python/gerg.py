@@ -19,8 +19,7 @@ import ctypes
 import os
 from typing import NamedTuple
 
-from gerg_archive import CAUSES  # for callers
-from gerg_archive import COMPONENTS, RANGES, ROOT, Refusal, fits, number_of, value_of
+from gerg_archive import CAUSES, COMPONENTS, RANGES, ROOT, Refusal, fits, number_of, value_of  # CAUSES for callers
 
 DEFAULT_FILE = os.path.join(ROOT, "data", "gerg-2008.bin")
 

@@ -45,7 +45,7 @@ CAUSES = {
 
 
 class Refusal(Exception):
-    """A refused call: number and value of document 01's table, and the cause in words."""
+    """A refused call: number and value as in the README's table, and the cause in words."""
 
     __module__ = "gerg"  # what a traceback calls it by
 

@@ -3,7 +3,7 @@ use std::fmt;
 
 macro_rules! causes {
     ($($variant:ident = $number:literal $words:literal,)*) => {
-        /// The causes of document 01's table, by number.
+        /// The causes of refusals: document 01's table and what the requests added to it, by number.
         #[derive(Clone, Copy, Debug, PartialEq, Eq, Hash)]
         #[repr(u32)]
         pub enum Cause { $(#[doc = $words] $variant = $number,)* }
@@ -76,7 +76,7 @@ impl Refusal {
         Err(Refusal { cause, value })
     }
 
-    /// The number in document 01's table.
+    /// The cause's number.
     pub fn number(&self) -> u32 {
         self.cause as u32
     }
