@@ -2,18 +2,13 @@
 import os
 import struct
 import subprocess
+import sys
 
-ROOT = os.path.dirname(os.path.dirname(os.path.dirname(os.path.abspath(__file__))))
+sys.path.insert(0, os.path.dirname(os.path.dirname(os.path.abspath(__file__))))
+from counts import ROOT, expect
+
 GERG = os.path.join(ROOT, "rust", "target", "debug", "gerg")
 GAS = ["--mix", "methane=0.9,ethane=0.1"]
-passed = failed = 0
-
-
-def expect(name, right):
-    global passed, failed
-    passed, failed = passed + bool(right), failed + (not right)
-    if not right:
-        print(f"FAILED {name}")
 
 
 def run(*words, cwd=ROOT):

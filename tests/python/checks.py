@@ -2,19 +2,12 @@
 import os
 import sys
 
-ROOT = os.path.dirname(os.path.dirname(os.path.dirname(os.path.abspath(__file__))))
+sys.path.insert(0, os.path.dirname(os.path.dirname(os.path.abspath(__file__))))
+from counts import ROOT, expect
+
 sys.path.insert(0, os.path.join(ROOT, "python"))
 import gerg
 import gerg_archive
-
-passed = failed = 0
-
-
-def expect(name, right):
-    global passed, failed
-    passed, failed = passed + bool(right), failed + (not right)
-    if not right:
-        print(f"FAILED {name}")
 
 
 def text(path):
