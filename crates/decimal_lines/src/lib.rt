@@ -4,7 +4,10 @@
 ghost use Rattle.std.specs.Prelude.{Some};
 ghost use Rattle.decimal_lines.specs.Line.{line_text, count_lines_text};
 
+mod lent;
+
 use gerg_refusals::Refusal;
+pub use lent::{put_counts, put_line};
 use std::fmt;
 
 // Two numbers on a line.

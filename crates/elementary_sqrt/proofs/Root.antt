@@ -2,7 +2,7 @@
 use mathlib.Core.Path.{◌≡◌, refl, sym, ap, ◌∙◌, subst}
 use mathlib.Core.Bool.{Bool, true, false, cond, not, ◌&&◌}
 use Prim.Native.Nat.{ℕ, zero, suc, ◌+◌, ◌-◌, ◌*◌, ◌/◌, ◌%◌, ◌^◌, ◌≤◌, ◌<◌}
-use native.Mathlib.Nat.{le_antisymm, le_of_suc-le-suc, lt_of_not-le, lt_irrefl, lt_of_lt_of_le, le_trans, le_of_eq, mul-le-mul, mul-le-mul_right, pow-suc, lt_of_le_of_lt}
+use native.Mathlib.Nat.{le_antisymm, le_of_suc-le-suc, lt_of_not-le, lt_irrefl, lt_of_lt_of_le, le_trans, le_of_eq, mul-le-mul, mul-le-mul_right, lt_of_mul-lt-mul_right, pow-suc, lt_of_le_of_lt}
 use native.Mathlib.Omega.{arith}
 use lib.Dec.{T, leb, ltb, leb→le, ltb→lt, nleb→lt}
 use lib.Ieee.Fits.{and_l, and_r}
@@ -46,6 +46,29 @@ pub record Found (n i q left bit : ℕ) : Type 0 where
   pub rest : 2 * (q * q) + left * unit ≡ 2 * n
   pub below : n < (q + unit) * (q + unit)
   pub room : q + unit ≤ 2 ^ 54
+
+pub found_first : (x : ℕ) → x < 2 ^ 54 → Found (x * 2 ^ 54) 0 0 (2 * x) (2 ^ 53)
+found_first x h = record {
+  unit = 2 ^ 54;
+  is = refl;
+  half = refl;
+  rest = omega arith;
+  below = omega arith;
+  room = omega arith;
+}
+
+-- what is left is small
+cancelled : (l q u : ℕ) → l * u < (4 * q + 2 * u) * u → l < 4 * q + 2 * u
+cancelled l q u h = lt_of_mul-lt-mul_right u h
+
+pub found_left : (n i q left bit : ℕ) → Found n i q left bit → left < 2 ^ 56
+found_left n i q left bit f =
+    let u = f.unit in
+    let e = f.rest in
+    let b = f.below in
+    let small : left < 4 * q + 2 * u = cancelled left q u (omega arith) in
+    let r = f.room in
+    omega arith
 
 -- the unit before a digit is found is twice its bit
 pub twice_bit : (n i q left bit : ℕ) → i < 54 → (f : Found n i q left bit) → f.unit ≡ bit * 2
@@ -170,6 +193,16 @@ nearest_tested x q high low h eh el l k t =
     let c = leb (a * 2 ^ 27) (2 ^ 54 + low * low + q) in
     let u : T (b && c) = subst T (sym t) tt in
     nearest_parts x q high low a h (omega arith) (omega arith) (ltb→lt _ _ (and_l b c u)) (leb→le _ _ (and_r b c u))
+
+-- the products fit
+pub square_small : (q : ℕ) → q < 2 ^ 55 → q / 2 ^ 26 * (q / 2 ^ 26) ≤ 2 ^ 58
+square_small q h = let g : q / 2 ^ 26 ≤ 2 ^ 29 = omega arith in mul-le-mul g g
+
+pub cross_small : (q : ℕ) → q < 2 ^ 55 → q / 2 ^ 26 * (q % 2 ^ 26) ≤ 2 ^ 55
+cross_small q h = let g : q / 2 ^ 26 ≤ 2 ^ 29 = omega arith in let k : q % 2 ^ 26 ≤ 2 ^ 26 = omega arith in mul-le-mul g k
+
+pub low_small : (q : ℕ) → q % 2 ^ 26 * (q % 2 ^ 26) ≤ 2 ^ 52
+low_small q = let k : q % 2 ^ 26 ≤ 2 ^ 26 = omega arith in mul-le-mul k k
 
 -- ---- the radicand with the exponent's odd part, as code has it
 pub radicand_odd : (m e : ℕ) → e % 2 ≡ 1 → 2 * m * 2 ^ 52 ≡ m * 2 ^ (52 + e % 2)

@@ -1,5 +1,5 @@
 -- The ways through `read_tables`.
-use mathlib.Core.Path.{◌≡◌, sym, ap, ◌∙◌}
+use mathlib.Core.Path.{◌≡◌, refl, sym, ap, ◌∙◌}
 use mathlib.Core.List.{List}
 use Prim.Native.Nat.{ℕ}
 use lib.ListN.{replicate}
@@ -10,12 +10,20 @@ use Rattle.gerg_tables.specs.declared.Tables.{Tables}
 use Rattle.std.specs.Prelude.{Result, Ok, Err}
 use Rattle.gerg_refusals.specs.declared.Fault.{Fault}
 use Rattle.gerg_refusals.specs.declared.Refusal.{Refusal}
+use Rattle.gerg_refusals.specs.declared.Refusal.TheVariants as refusal
 use Rattle.gerg_file.specs.declared.Layout.{Layout}
 use Rattle.gerg_file.specs.File.{file_of}
 use Rattle.gerg_coefficients.specs.Load.{doubles, integers, loaded, no_tables}
 use Rattle.gerg_tables.specs.Check.{fault_of}
 use Rattle.gerg_coefficients.specs.Answer.{judged, answer_as, answer_of, tables_as, tables_of}
 use Rattle.gerg_coefficients.specs.TableFile.{table_file_of}
+
+pub accepted : {f : Result (Unit {0}) Fault} (length : ℕ) → f ≡ Ok tt → Ok length ≡ judged f length
+accepted length e = ap (λ (f : Result (Unit {0}) Fault). judged f length) (sym e)
+
+pub faulty : (f : Result (Unit {0}) Fault) (length : ℕ) → (f ≡ Ok tt → ⊥) → (fault : Fault) × ((f ≡ Err fault) × (Err (refusal.Tables fault) ≡ judged f length))
+faulty (Ok u) length h = absurd (h refl)
+faulty (Err fault) length h = (fault, (refl, refl))
 
 pub malformed : (s : List ℕ) {r : Refusal} {w : Result Layout Refusal} → w ≡ file_of s → w ≡ Err r
     → ◌≡◌ {A = TableFile} (record { answer = Err r; tables = record { doubles = replicate 4086 +0; integers = replicate 1631 0 } }) (table_file_of s)

@@ -3,6 +3,7 @@ pub mod Heads
 pub mod Chain
 pub mod Filed
 pub mod Prefix
+pub mod Sections
 pub mod Begins
 pub mod WellFormed
 pub mod Reach

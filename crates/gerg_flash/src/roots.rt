@@ -6,6 +6,7 @@ ghost use Rattle.gerg_tables.specs.Lent.{lent};
 ghost use Rattle.gerg_scan_steps.specs.Answers.{leaves};
 ghost use Rattle.gerg_grid.specs.Grid.{grid_of};
 ghost use Rattle.gerg_flash.specs.Roots as is;
+ghost use Rattle.gerg_flash.specs.Left.{searched_left};
 
 use crate::{SoughtRoots, settle};
 use gerg::Range;
@@ -15,8 +16,9 @@ use gerg_reducing::lent::Mixture;
 use gerg_refusals::Refusal;
 use gerg_root_list::{Roots, answer, envelope};
 use gerg_scan::{Sought, sampling};
+use gerg_scan_steps::{Scan, Scanned};
 
-// The roots of a pressure at a temperature, which take the place of those in the vector; a refusal leaves some of them there. The isotherm
+// The roots of a pressure at a temperature, which take the place of those in the vector; a refusal leaves those before it. The isotherm
 // is worked out once.
 pub fn exterior_roots(
     grid: &[f64],
@@ -27,7 +29,8 @@ pub fn exterior_roots(
     roots: &mut Roots,
 ) -> Result<(), Refusal>
     requires { grid.now ≡ grid_of }
-    ensures { leaves result roots.new.items ≡ is.searched_of (lent mixture.entry.coefficients) mixture.entry.model.now mixture.entry.gradients.now range temperature pressure }
+    ensures accepted { leaves result roots.new.items ≡ is.searched_of (lent mixture.entry.coefficients) mixture.entry.model.now mixture.entry.gradients.now range temperature pressure }
+    ensures left { roots.new.items ≡ searched_left (lent mixture.entry.coefficients) mixture.entry.model.now mixture.entry.gradients.now range temperature pressure }
 {
     let mut cells = [0.0; 939];
     let isotherm = Isotherm::of(mixture.coefficients, mixture.model, temperature, &mut cells);
@@ -36,9 +39,11 @@ pub fn exterior_roots(
         range,
         pressure,
     };
-    let scan = sampling::scan(grid, densities)?;
+    let mut scanned = Scanned::rootless(Scan::before(0.0));
+    roots.clear();
+    sampling::scan(grid, densities, &mut scanned)?;
     let sought = SoughtRoots { densities, mixture };
-    settle::settle(&scan, sought, roots)
+    settle::settle(&scanned, sought, roots)
 }
 
 // The roots of the pressure on the two exterior branches. Each writes density, pressure, Z, Gibbs energy and its coefficients to `out`;

@@ -1,2 +1,3 @@
--- The grid of densities.
+-- The grid of densities, and the grid in an array.
 pub mod Grid
+pub mod GridArray

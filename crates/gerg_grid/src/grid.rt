@@ -1,13 +1,14 @@
 // The grid of densities, in mol/m³.
 #![tactic(auto, unfolding(crate::specs::Grid::logarithmic_point, crate::specs::Grid::even_point, crate::specs::Grid::clamped, crate::specs::Grid::point_at, crate::specs::Grid::same_as_last, crate::specs::Grid::kept))]
 
-ghost use Rattle.std.specs.Prelude.{◌≡◌, ◌<◌};
+ghost use Rattle.std.specs.Prelude.{◌≡◌, ◌<◌, length};
 ghost use Rattle.arrayvec.specs.ArrayVec.{array_vec_len};
 ghost use Rattle.numerics.specs.Double.{◌⊘◌};
 ghost use Rattle.elementary_ln.specs.Ln.{ln_of};
+ghost use Rattle.gerg_grid.specs.GridArray.{insert_from, HoldsGrid};
 ghost use Rattle.gerg_grid.specs.Grid.{lowest, highest, logarithmic_point, even_point, clamped, point_at, sorted_points, same_as_last, kept, grid_of};
 
-use crate::Points;
+use crate::{GridPoints, Points};
 use elementary_exp::exp;
 use elementary_ln::ln;
 
@@ -53,6 +54,23 @@ fn point(k: u32, span: f64) -> f64
     clamp(even_point(k - 129))
 }
 
+// v among the first n places, which are sorted and behind which is one more: the greater ones move up by one. Not the vector's `insert`, for which an archive for C would need
+// `memmove` from outside.
+fn insert(points: &mut [f64], n: usize, v: f64)
+    requires { n < length points.old }
+    ensures { points.new ≡ insert_from n v points.old }
+{
+    for j in (0..n).rev() {
+        let u = points[j];
+        if !(v < u) {
+            points[j + 1] = v;
+            return;
+        }
+        points[j + 1] = u;
+    }
+    points[0] = v;
+}
+
 // Each point is put behind those that are not above it.
 fn sorted_points() -> Points
     ensures { result.items ≡ sorted_points }
@@ -61,8 +79,9 @@ fn sorted_points() -> Points
     let mut sorted = Points::new();
     for k in 0..386u32 {
         let v = point(k, span);
-        let at = sorted.partition_point(|u| !(v < *u));
-        sorted.insert(at, v);
+        let n = sorted.len();
+        sorted.push(v);
+        insert(&mut sorted, n, v);
     }
     sorted
 }
@@ -97,4 +116,15 @@ pub fn grid() -> Points
         keep(&mut points, *x);
     }
     points
+}
+
+// The grid in the first places of an array.
+pub fn grid_points() -> GridPoints
+    ensures { HoldsGrid result.points result.count }
+{
+    let sorted = grid();
+    let count = sorted.len();
+    let mut points = [0.0; 386];
+    points[..count].copy_from_slice(&sorted);
+    GridPoints { points, count }
 }

@@ -11,7 +11,7 @@ use Rattle.gerg_reducing.specs.declared.GergModel.{GergModel}
 use Rattle.gerg_scan_steps.specs.Answers.{mapped}
 use Rattle.gerg_scan_steps.specs.Halving.{larger_of}
 use Rattle.gerg_scan_steps.specs.declared.Point.{Point}
-use Rattle.gerg_scan_steps.specs.declared.Scan.{Scan}
+use Rattle.gerg_scan_steps.specs.declared.Scanned.{Scanned}
 use Rattle.gerg_root_list.specs.declared.Root.{Root}
 
 -- "listed component not 1 to 5": row 20
@@ -53,12 +53,12 @@ abbrev pub no_root : Root
 no_root = record { head = []; coefficients = [] }
 
 -- "Dropping interior roots before the whole grid is seen" would be wrong: the whole scan is given
-unfoldable pub kept_of : (Float → Outcome) → Float → Scan → Kept
+unfoldable pub kept_of : (Float → Outcome) → Float → Scanned → Kept
 kept_of root target s =
-    iter (λ i k. and_then k (keep_step root target s.first_negative s.last_negative (get_or s.roots.items i no_point))) (length s.roots.items) (Ok [])
+    iter (λ i k. and_then k (keep_step root target s.scan.first_negative s.scan.last_negative (get_or s.roots.items i no_point))) (length s.roots.items) (Ok [])
 
 -- a refusal of the scan comes before any root is looked at
-unfoldable pub found_of : (Float → Outcome) → Float → Result Scan Refusal → Kept
+unfoldable pub found_of : (Float → Outcome) → Float → Result Scanned Refusal → Kept
 found_of root target s = and_then s (kept_of root target)
 
 -- doubles needed

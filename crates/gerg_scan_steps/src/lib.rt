@@ -27,14 +27,19 @@ pub struct Point {
     pub residual: f64,
 }
 
-// A scan: the last grid point and the residual there, the first and the last point with stiffness ≤ 0, and the roots found, at most one
-// for each grid point. Where there is no such point the two are infinities, the first above the last: no density lies between them, and no
-// `Option` is opened for each root.
-#[derive(Drop)]
+// What a scan knows at a grid point, beside its roots: the last point and the residual there, the first and the last point with stiffness ≤ 0. Where there is
+// no such point the two are infinities, the first above the last: no density lies between them, and no `Option` is opened for each root.
+#[derive(Clone, Copy)]
 pub struct Scan {
     pub previous: f64,
     pub left: f64,
     pub first_negative: f64,
     pub last_negative: f64,
+}
+
+// A scan and the roots found, at most one for each grid point.
+#[derive(Drop)]
+pub struct Scanned {
+    pub scan: Scan,
     pub roots: ArrayVec<Point, 386>,
 }

@@ -1,11 +1,12 @@
 // What a scan does at a grid point, from the sample there and the crossing before it.
-#![tactic(auto, unfolding(crate::specs::Scan::begun_at, crate::specs::Scan::noted_of, crate::specs::Scan::moved_of, crate::specs::Scan::rooted_of, crate::specs::Scan::apart))]
+#![tactic(auto, unfolding(crate::specs::Left::before, crate::specs::Scan::begun_at, crate::specs::Scan::noted_of, crate::specs::Scan::moved_of, crate::specs::Scan::rooted_of, crate::specs::Scan::apart))]
 
 ghost use Rattle.std.specs.Prelude.{◌≡◌, ◌<◌};
 ghost use Rattle.arrayvec.specs.ArrayVec.{array_vec_len};
-ghost use Rattle.gerg_scan_steps.specs.Scan.{begun_at, noted_of, moved_of, rooted_of, densities, apart};
+ghost use Rattle.gerg_scan_steps.specs.Scan.{begun_at, noted_of, moved_of, rooted_of, densities, apart, rootless};
+ghost use Rattle.gerg_scan_steps.specs.Left.{before};
 
-use crate::{Halving, Point, Sample, Scan, halve};
+use crate::{Halving, Point, Sample, Scan, Scanned, halve};
 use arrayvec::ArrayVec;
 use gerg_refusals::Refusal;
 
@@ -23,18 +24,27 @@ fn is_apart(roots: &[Point], density: f64) -> bool
 }
 
 impl Scan {
+    // Before any sample.
+    pub fn before(first: f64) -> Scan
+        ensures { result ≡ before first }
+    {
+        let infinity = 1.0 / 0.0;
+        Scan {
+            previous: first,
+            left: 0.0,
+            first_negative: infinity,
+            last_negative: -infinity,
+        }
+    }
+
     // The stiffness at the first grid point is not looked at.
     pub fn begun(first: f64, sample: Sample) -> Result<Scan, Refusal>
         ensures { result ≡ begun_at first sample }
     {
         let (left, _) = sample?;
-        let infinity = 1.0 / 0.0;
         Ok(Scan {
-            previous: first,
             left,
-            first_negative: infinity,
-            last_negative: -infinity,
-            roots: ArrayVec::new(),
+            ..Scan::before(first)
         })
     }
 
@@ -50,6 +60,25 @@ impl Scan {
         }
     }
 
+    pub fn go_to(&mut self, current: f64, right: f64)
+        ensures { self.new ≡ moved_of current right self.old }
+    {
+        self.previous = current;
+        self.left = right;
+    }
+}
+
+impl Scanned {
+    // With no root.
+    pub fn rootless(scan: Scan) -> Scanned
+        ensures { result ≡ rootless scan }
+    {
+        Scanned {
+            scan,
+            roots: ArrayVec::new(),
+        }
+    }
+
     // The best point of a crossing behind the roots.
     pub fn root(&mut self, h: Halving)
         requires { array_vec_len self.old.roots < 386 }
@@ -58,12 +87,5 @@ impl Scan {
         if is_apart(&self.roots, h.best.density) {
             self.roots.push(h.best);
         }
-    }
-
-    pub fn go_to(&mut self, current: f64, right: f64)
-        ensures { self.new ≡ moved_of current right self.old }
-    {
-        self.previous = current;
-        self.left = right;
     }
 }

@@ -1,7 +1,7 @@
 -- What `any` finds among the components from one on, and a search for the first fault that goes on. Assumes nothing.
 use denote.Param.Members.{Mut}
-use mathlib.Core.Bool.{Bool, ◌||◌}
-use mathlib.Core.Path.{◌≡◌, refl, ap, ◌∙◌}
+use mathlib.Core.Bool.{Bool, true, false, not, ◌&&◌, ◌||◌}
+use mathlib.Core.Path.{◌≡◌, refl, sym, ap, ◌∙◌}
 use Prim.Native.Nat.{ℕ, zero, suc, ◌+◌, ◌-◌, ◌≤◌, ◌<◌}
 use native.Mathlib.Omega.{arith}
 use Rattle.std.proofs.Common.{Result, Ok, Err}
@@ -13,7 +13,7 @@ use Rattle.std.specs.Iterator.{ChecksAny}
 use Rattle.std.specs.List.{list_any, range_with_len}
 use Rattle.std.specs.declared.ops.Range.{Range}
 use Rattle.gerg_refusals.specs.declared.Fault.{Fault}
-use Rattle.gerg_tables.specs.Check.{some, some_from, first_of, first}
+use Rattle.gerg_tables.specs.Check.{some, some_from, fault_if, first_of, first}
 
 any_some : (f : ℕ → Bool) (n a : ℕ) → list_any f (range_with_len a n) ≡ some f n a
 unfolding some
@@ -41,3 +41,17 @@ module _ (f : ℕ → Result (Unit {0}) Fault) (n i : ℕ) {v : Result (Unit {0}
   pub no_fault : n ≤ i → v ≡ Ok tt
   unfolding first
   no_fault h = r ∙ ap (λ (m : ℕ). first f m i) (let g : n - i ≡ 0 = omega arith in g)
+
+-- a test of two parts that a call has made
+pub first_holds : {a : Bool} (b : Bool) → a ≡ true → not b ≡ not (a && b)
+first_holds b e = ap (λ (a : Bool). not (a && b)) (sym e)
+
+pub first_fails : {a : Bool} (b : Bool) → a ≡ false → true ≡ not (a && b)
+first_fails b e = ap (λ (a : Bool). not (a && b)) (sym e)
+
+-- a fault by its name, where a test holds
+pub numbered_fault : {b t : Bool} (fault : Fault) → b ≡ t → b ≡ true → Err fault ≡ fault_if t fault
+numbered_fault fault e q = ap (λ (b : Bool). fault_if b fault) (sym q ∙ e)
+
+pub no_numbered_fault : {b t : Bool} (fault : Fault) → b ≡ t → b ≡ false → Ok tt ≡ fault_if t fault
+no_numbered_fault fault e q = ap (λ (b : Bool). fault_if b fault) (sym q ∙ e)

@@ -3,7 +3,7 @@ use mathlib.Core.Path.{◌≡◌, refl, sym}
 use mathlib.Core.Bool.{Bool, true, false}
 use mathlib.Core.List.{List}
 use mathlib.Core.Logic.{inl, inr}
-use Prim.Native.Nat.{ℕ, ◌*◌, ◌/◌, ◌≤◌, ◌<◌}
+use Prim.Native.Nat.{ℕ, zero, suc, ◌+◌, ◌*◌, ◌/◌, ◌≤◌, ◌<◌}
 use native.Mathlib.Nat.{eq-or-lt_of_le}
 use native.Mathlib.Omega.{arith}
 use borrow.Author.Tests.{le-ltb, lt-ltb, ltb-true, ltb-false}
@@ -15,6 +15,16 @@ use Rattle.packed_decimal.specs.Record.{wrong_record}
 use Rattle.packed_decimal.specs.Records.{offset_of, begun, records, wrong_offset}
 use Rattle.chromatograph.specs.Promised.{FirstWrong}
 use Rattle.packed_decimal.proofs.Laws.Record.{not_cut}
+
+-- where the test holds of no place, the first place is past them all
+pub none_first : (bad : ℕ → Bool) (n k : ℕ) → ((d : ℕ) → d < n → bad (k + d) ≡ false) → first_place bad n k ≡ k + n
+unfolding first_place
+none_first bad zero k h = omega arith
+none_first bad (suc n) k h =
+    let z : k + 0 ≡ k = omega arith in
+    let here : bad k ≡ false = rw z at (h 0 (omega arith)) in
+    let e : k + suc n ≡ k + 1 + n = omega arith in
+    rw (here, e) (none_first bad n (k + 1) (λ d l. let m : k + 1 + d ≡ k + suc d = omega arith in rw m (h (suc d) (omega arith))))
 
 module _ (bytes : List ℕ) where
   abbrev wrong_at : ℕ → Bool

@@ -20,8 +20,9 @@ use Rattle.gerg_scan.specs.Sampling.{sample_of}
 use Rattle.gerg_root_list.specs.RootList.{Kept, roots_in}
 use Rattle.gerg_root_list.specs.declared.Root.{Root}
 use Rattle.gerg_root_list.proofs.Laws.RootList.{root_list}
-use Rattle.gerg_root_list.proofs.Laws.KeptRises.{Headed, found_rises}
+use Rattle.gerg_root_list.proofs.Laws.KeptRises.{Headed, found_rises, found_left_rises}
 use Rattle.gerg_flash.specs.Roots.{head_of, checked_of, state_of, root_at, searched_of}
+use Rattle.gerg_flash.specs.Left.{searched_left}
 
 -- ---- a root's first number is its density
 module _ (t : Tables) (m : GergModel) (gradients : List (List Float)) (temperature x : Float) (root : Root) where
@@ -49,3 +50,10 @@ searched_rises t m gradients range temperature target =
     go : (k : Kept) → IfOk k (λ r. Rising (root_list r)) → Rising (root_list (roots_in k))
     go (Ok k) h = h
     go (Err r) h = rising_none
+
+-- and of those that a refused search leaves
+pub left_rises : (t : Tables) (m : GergModel) (gradients : List (List Float)) (range : Range) (temperature target : Float) → Rising (root_list (searched_left t m gradients range temperature target))
+unfolding searched_left
+left_rises t m gradients range temperature target =
+    found_left_rises (root_at t m gradients range temperature) (headed t m gradients range temperature) target (scan_of (sample_of t m range temperature target) target grid_of)
+    (scan_rises (sample_of t m range temperature target) target grid_of grid_rises grid_some)

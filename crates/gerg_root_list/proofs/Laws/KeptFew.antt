@@ -1,7 +1,7 @@
 -- At most as many roots are kept as a scan found. Assumes nothing.
 use mathlib.Core.Bool.{Bool, true, false, ◌&&◌}
 use mathlib.Core.List.{List, []}
-use Prim.Native.Nat.{ℕ, ◌+◌, ◌≤◌}
+use Prim.Native.Nat.{ℕ, ◌+◌, ◌≤◌, zero-le}
 use native.Mathlib.Nat.{le_trans}
 use native.Mathlib.Omega.{arith}
 use lib.Ieee.{Float, lt}
@@ -12,10 +12,11 @@ use Rattle.numerics.specs.Double.{pick}
 use Rattle.numerics.specs.Growing.{one_more, none_more}
 use Rattle.gerg_refusals.specs.declared.Refusal.{Refusal}
 use Rattle.gerg_refusals.specs.declared.Refusal.TheVariants as refusal
-use Rattle.gerg_scan_steps.proofs.Laws.Answers.{steps_keep}
+use Rattle.gerg_scan_steps.proofs.Laws.Answers.{steps_keep, left_keeps, match_ok}
 use Rattle.gerg_scan_steps.specs.declared.Point.{Point}
-use Rattle.gerg_scan_steps.specs.declared.Scan.{Scan}
+use Rattle.gerg_scan_steps.specs.declared.Scanned.{Scanned}
 use Rattle.gerg_root_list.specs.RootList.{Outcome, joined_by, limit_of, keep_step, no_point, kept_of, found_of}
+use Rattle.gerg_root_list.specs.Left.{left_of, found_left}
 use Rattle.gerg_root_list.specs.declared.Root.{Root}
 
 module _ (root : Float → Outcome) (target : Float) where
@@ -34,13 +35,28 @@ module _ (root : Float → Outcome) (target : Float) where
       go false true = tt
       go false false = joined_more (root p.density) k
 
-  pub kept_few : (s : Scan) → IfOk (kept_of root target s) (λ k. length k ≤ length s.roots.items)
+  pub kept_few : (s : Scanned) → IfOk (kept_of root target s) (λ k. length k ≤ length s.roots.items)
   unfolding kept_of
   kept_few s =
-      steps_keep (λ i k. length k ≤ i) (λ r. Unit {0}) (λ i. keep_step root target s.first_negative s.last_negative (get_or s.roots.items i no_point)) (length s.roots.items) (Ok []) (omega arith)
-      (λ i k l h. IfOk-weaker (keep_step root target s.first_negative s.last_negative (get_or s.roots.items i no_point) k) _ _ (λ r g. omega arith) (keep_more s.first_negative s.last_negative (get_or s.roots.items i no_point) k))
+      steps_keep (λ i k. length k ≤ i) (λ r. Unit {0}) (λ i. keep_step root target s.scan.first_negative s.scan.last_negative (get_or s.roots.items i no_point)) (length s.roots.items) (Ok []) (omega arith)
+      (λ i k l h. IfOk-weaker (keep_step root target s.scan.first_negative s.scan.last_negative (get_or s.roots.items i no_point) k) _ _ (λ r g. omega arith) (keep_more s.scan.first_negative s.scan.last_negative (get_or s.roots.items i no_point) k))
 
-  pub found_few : (n : ℕ) (s : Result Scan Refusal) → IfOk s (λ t. length t.roots.items ≤ n) → IfOk (found_of root target s) (λ k. length k ≤ n)
+  pub found_few : (n : ℕ) (s : Result Scanned Refusal) → IfOk s (λ t. length t.roots.items ≤ n) → IfOk (found_of root target s) (λ k. length k ≤ n)
   unfolding found_of
   found_few n (Ok s) h = IfOk-weaker (kept_of root target s) _ _ (λ r g. le_trans g h) (kept_few s)
   found_few n (Err r) h = tt
+
+  -- ---- and so many are left where one is refused
+  left_few : (s : Scanned) → length (left_of root target s) ≤ length s.roots.items
+  unfolding left_of
+  left_few s =
+      left_keeps (λ i. keep_step root target s.scan.first_negative s.scan.last_negative (get_or s.roots.items i no_point)) (λ i k. k) (λ i k. length k ≤ i) (λ k. length k ≤ length s.roots.items) (length s.roots.items) 0 [] (omega arith)
+      (λ i k l h. omega (arith, l, h))
+      (λ i k l h.
+      match_ok _ (keep_step root target s.scan.first_negative s.scan.last_negative (get_or s.roots.items i no_point) k)
+      (IfOk-weaker (keep_step root target s.scan.first_negative s.scan.last_negative (get_or s.roots.items i no_point) k) _ _ (λ r g. omega (arith, h, g)) (keep_more s.scan.first_negative s.scan.last_negative (get_or s.roots.items i no_point) k))
+      (omega (arith, l, h)))
+
+  pub found_left_few : (n : ℕ) (s : Result Scanned Refusal) → IfOk s (λ t. length t.roots.items ≤ n) → length (found_left root target s) ≤ n
+  found_left_few n (Ok s) h = le_trans (left_few s) h
+  found_left_few n (Err r) h = zero-le

@@ -12,7 +12,7 @@ use Rattle.gerg_refusals.specs.declared.Refusal.TheVariants as refusal
 use Rattle.gerg_reducing.specs.declared.GergModel.{GergModel}
 use Rattle.gerg_scan_steps.proofs.Laws.Answers.{steps_keep}
 use Rattle.gerg_scan_steps.specs.declared.Point.{Point}
-use Rattle.gerg_scan_steps.specs.declared.Scan.{Scan}
+use Rattle.gerg_scan_steps.specs.declared.Scanned.{Scanned}
 use Rattle.gerg_root_list.specs.RootList as is
 use Rattle.gerg_root_list.specs.declared.Root.{Root}
 
@@ -32,13 +32,13 @@ module _ (Q : Refusal → Type 0) (row-22 : Q refusal.RootNotConverged) (root : 
       go false true = row-22
       go false false = joined_refusal (root p.density) k (each p.density)
 
-  kept_refusal : (target : Float) (s : Scan) → IfErr (is.kept_of root target s) Q
+  kept_refusal : (target : Float) (s : Scanned) → IfErr (is.kept_of root target s) Q
   unfolding is.kept_of
   kept_refusal target s =
-      steps_keep (λ i k. Unit {0}) Q (λ i. is.keep_step root target s.first_negative s.last_negative (get_or s.roots.items i is.no_point)) (length s.roots.items) (Ok []) tt
-      (λ i k l p. kept_step_refusal target s.first_negative s.last_negative (get_or s.roots.items i is.no_point) k)
+      steps_keep (λ i k. Unit {0}) Q (λ i. is.keep_step root target s.scan.first_negative s.scan.last_negative (get_or s.roots.items i is.no_point)) (length s.roots.items) (Ok []) tt
+      (λ i k l p. kept_step_refusal target s.scan.first_negative s.scan.last_negative (get_or s.roots.items i is.no_point) k)
 
-  pub found_refusal : (target : Float) (s : Result Scan Refusal) → IfErr s Q → IfErr (is.found_of root target s) Q
+  pub found_refusal : (target : Float) (s : Result Scanned Refusal) → IfErr s Q → IfErr (is.found_of root target s) Q
   unfolding is.found_of
   found_refusal target (Ok s) p = kept_refusal target s
   found_refusal target (Err r) p = p

@@ -16,9 +16,10 @@ use Rattle.gerg_refusals.specs.declared.Refusal.TheVariants as refusal
 use Rattle.gerg_grid.proofs.Laws.Rising.{Rising, rising_none, rising_more, last, last_more}
 use Rattle.gerg_scan_steps.specs.Scan.{densities}
 use Rattle.gerg_scan_steps.specs.declared.Point.{Point}
-use Rattle.gerg_scan_steps.specs.declared.Scan.{Scan}
-use Rattle.gerg_scan_steps.proofs.Laws.Answers.{steps_keep}
+use Rattle.gerg_scan_steps.specs.declared.Scanned.{Scanned}
+use Rattle.gerg_scan_steps.proofs.Laws.Answers.{steps_keep, left_keeps, match_ok}
 use Rattle.gerg_root_list.specs.RootList.{Outcome, joined_by, limit_of, keep_step, no_point, kept_of, found_of}
+use Rattle.gerg_root_list.specs.Left.{left_of, found_left}
 use Rattle.gerg_root_list.specs.declared.Root.{Root}
 use Rattle.gerg_root_list.proofs.Laws.RootList.{root_list}
 
@@ -78,15 +79,31 @@ module _ (give : Float → Outcome) (headed : Headed give) (target first final :
       none : 0 < 0 → ⊥
       none p = omega arith
 
-kept_rises : (give : Float → Outcome) → Headed give → (target : Float) (s : Scan) → Rising (densities s.roots.items) → IfOk (kept_of give target s) (λ k. Rising (root_list k))
+kept_rises : (give : Float → Outcome) → Headed give → (target : Float) (s : Scanned) → Rising (densities s.roots.items) → IfOk (kept_of give target s) (λ k. Rising (root_list k))
 unfolding kept_of
 kept_rises give headed target s r =
-    IfOk-weaker (kept_of give target s) (Above give headed target s.first_negative s.last_negative (densities s.roots.items) r (length s.roots.items)) _ (λ k a. a.rises)
-    (steps_keep (Above give headed target s.first_negative s.last_negative (densities s.roots.items) r) (λ r. Unit {0}) (λ i. keep_step give target s.first_negative s.last_negative (get_or s.roots.items i no_point)) (length s.roots.items) (Ok [])
-    (empty give headed target s.first_negative s.last_negative (densities s.roots.items) r)
-    (λ i k l a. stepped give headed target s.first_negative s.last_negative (densities s.roots.items) r i (get_or s.roots.items i no_point) k (rw (length_is s.roots.items) l) (density_is s.roots.items i) a))
+    IfOk-weaker (kept_of give target s) (Above give headed target s.scan.first_negative s.scan.last_negative (densities s.roots.items) r (length s.roots.items)) _ (λ k a. a.rises)
+    (steps_keep (Above give headed target s.scan.first_negative s.scan.last_negative (densities s.roots.items) r) (λ r. Unit {0}) (λ i. keep_step give target s.scan.first_negative s.scan.last_negative (get_or s.roots.items i no_point)) (length s.roots.items) (Ok [])
+    (empty give headed target s.scan.first_negative s.scan.last_negative (densities s.roots.items) r)
+    (λ i k l a. stepped give headed target s.scan.first_negative s.scan.last_negative (densities s.roots.items) r i (get_or s.roots.items i no_point) k (rw (length_is s.roots.items) l) (density_is s.roots.items i) a))
 
-pub found_rises : (give : Float → Outcome) → Headed give → (target : Float) (s : Result Scan Refusal) → IfOk s (λ t. Rising (densities t.roots.items)) → IfOk (found_of give target s) (λ k. Rising (root_list k))
+pub found_rises : (give : Float → Outcome) → Headed give → (target : Float) (s : Result Scanned Refusal) → IfOk s (λ t. Rising (densities t.roots.items)) → IfOk (found_of give target s) (λ k. Rising (root_list k))
 unfolding found_of
 found_rises give g target (Ok s) r = kept_rises give g target s r
 found_rises give g target (Err n) r = tt
+
+-- ---- and those that are left where one is refused
+left_rises : (give : Float → Outcome) → Headed give → (target : Float) (s : Scanned) → Rising (densities s.roots.items) → Rising (root_list (left_of give target s))
+unfolding left_of
+left_rises give headed target s r =
+    left_keeps (λ i. keep_step give target s.scan.first_negative s.scan.last_negative (get_or s.roots.items i no_point)) (λ i k. k)
+    (Above give headed target s.scan.first_negative s.scan.last_negative (densities s.roots.items) r) (λ k. Rising (root_list k)) (length s.roots.items) 0 []
+    (empty give headed target s.scan.first_negative s.scan.last_negative (densities s.roots.items) r) (λ i k l a. a.rises)
+    (λ i k l a.
+    match_ok _ (keep_step give target s.scan.first_negative s.scan.last_negative (get_or s.roots.items i no_point) k)
+    (stepped give headed target s.scan.first_negative s.scan.last_negative (densities s.roots.items) r i (get_or s.roots.items i no_point) k (rw (length_is s.roots.items) (omega (arith, l))) (density_is s.roots.items i) a) a.rises)
+
+pub found_left_rises : (give : Float → Outcome) → Headed give → (target : Float) (s : Result Scanned Refusal) → IfOk s (λ t. Rising (densities t.roots.items)) → Rising (root_list (found_left give target s))
+unfolding root_list
+found_left_rises give g target (Ok s) r = left_rises give g target s r
+found_left_rises give g target (Err n) r = rising_none

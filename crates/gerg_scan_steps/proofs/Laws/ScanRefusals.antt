@@ -14,7 +14,7 @@ use Rattle.gerg_scan_steps.specs.Halving as halving
 use Rattle.gerg_scan_steps.specs.Sample.{Sample}
 use Rattle.gerg_scan_steps.specs.Scan as scan
 use Rattle.gerg_scan_steps.specs.declared.Halving.{Halving}
-use Rattle.gerg_scan_steps.specs.declared.Scan.{Scan}
+use Rattle.gerg_scan_steps.specs.declared.Scanned.{Scanned}
 use Rattle.gerg_scan_steps.proofs.Laws.Answers.{steps_keep}
 
 module _ (v : Float → Sample) (Q : Refusal → Type 0) (each : (x : Float) → IfErr (v x) Q) where
@@ -35,25 +35,25 @@ module _ (v : Float → Sample) (Q : Refusal → Type 0) (each : (x : Float) →
   unfolding halving.crossing_of
   crossing_refusal tolerance lo hi = steps_keep (λ k h. Unit {0}) Q (λ k. halving.halved_of v tolerance) 100 (Ok (halving.unhalved lo hi)) tt (λ k h l p. halved_refusal tolerance h)
 
-  crossed_refusal : (target current right : Float) (s : Scan) → IfErr (scan.crossed_of v target current right s) Q
+  crossed_refusal : (target current right : Float) (s : Scanned) → IfErr (scan.crossed_of v target current right s) Q
   unfolding scan.crossed_of
-  crossed_refusal target current right s = go (le s.left +0 && le +0 right) (halving.crossing_of v (halving.tolerance_of target) s.previous current) (crossing_refusal (halving.tolerance_of target) s.previous current)
+  crossed_refusal target current right s = go (le s.scan.left +0 && le +0 right) (halving.crossing_of v (halving.tolerance_of target) s.scan.previous current) (crossing_refusal (halving.tolerance_of target) s.scan.previous current)
     where
       go : (q : Bool) (c : Result Halving Refusal) → IfErr c Q → IfErr (pick q (mapped (λ h. scan.rooted_of h s) c) (Ok s)) Q
       go true (Ok h) k = tt
       go true (Err r) k = k
       go false c k = tt
 
-  seen_refusal : (target current : Float) (s : Scan) (x : Sample) → IfErr x Q → IfErr (scan.seen_of v target current s x) Q
+  seen_refusal : (target current : Float) (s : Scanned) (x : Sample) → IfErr x Q → IfErr (scan.seen_of v target current s x) Q
   unfolding scan.seen_of
-  seen_refusal target current s (Ok (right, stiffness)) k = go (scan.crossed_of v target current right (scan.noted_of current stiffness s)) (crossed_refusal target current right (scan.noted_of current stiffness s))
+  seen_refusal target current s (Ok (right, stiffness)) k = go (scan.crossed_of v target current right (scan.changed (scan.noted_of current stiffness) s)) (crossed_refusal target current right (scan.changed (scan.noted_of current stiffness) s))
     where
-      go : (c : Result Scan Refusal) → IfErr c Q → IfErr (mapped (scan.moved_of current right) c) Q
+      go : (c : Result Scanned Refusal) → IfErr c Q → IfErr (mapped (scan.changed (scan.moved_of current right)) c) Q
       go (Ok r) h = tt
       go (Err r) h = h
   seen_refusal target current s (Err r) k = k
 
-  begun_refusal : (first : Float) (x : Sample) → IfErr x Q → IfErr (scan.begun_at first x) Q
+  begun_refusal : (first : Float) (x : Sample) → IfErr x Q → IfErr (mapped scan.rootless (scan.begun_at first x)) Q
   unfolding scan.begun_at
   begun_refusal first (Ok (f, stiffness)) k = tt
   begun_refusal first (Err r) k = k
@@ -61,6 +61,6 @@ module _ (v : Float → Sample) (Q : Refusal → Type 0) (each : (x : Float) →
   pub scan_refusal : (target : Float) (grid : List Float) → IfErr (scan.scan_of v target grid) Q
   unfolding scan.scan_of scan.scan_step range
   scan_refusal target grid =
-      steps_keep (λ k s. Unit {0}) Q (λ k. scan.scan_step v target (get_or grid (1 + k) nan)) (length grid - 1) (scan.begun_at (get_or grid 0 nan) (v (get_or grid 0 nan)))
+      steps_keep (λ k s. Unit {0}) Q (λ k. scan.scan_step v target (get_or grid (1 + k) nan)) (length grid - 1) (mapped scan.rootless (scan.begun_at (get_or grid 0 nan) (v (get_or grid 0 nan))))
       (begun_refusal (get_or grid 0 nan) (v (get_or grid 0 nan)) (each (get_or grid 0 nan)))
       (λ k s l p. seen_refusal target (get_or grid (1 + k) nan) s (v (get_or grid (1 + k) nan)) (each (get_or grid (1 + k) nan)))

@@ -59,7 +59,7 @@ module _ {S F : Type 0} {steps : S → Option (Bor (List ℕ)) → S → Type 0}
   abbrev pub Told : Option ℕ → Type 0
   Told o = o ≡ then_some (ltb (wrong_offset bytes) (length bytes)) (wrong_offset bytes)
 
-  first_wrong : (k : ℕ) → IsFirstToGive p g f true false k → Told (Some (6 * k))
+  pub first_wrong : (k : ℕ) → IsFirstToGive p g f true false k → Told (Some (6 * k))
   unfolding wrong_offset
   first_wrong k h =
       let i = h keeps in
@@ -70,7 +70,7 @@ module _ {S F : Type 0} {steps : S → Option (Bor (List ℕ)) → S → Type 0}
   at_each : (j : ℕ) → j < p.len → is_some (option_map (λ y. y) (p.at j)) ≡ true
   at_each j h = ap is_some (p.reads j (item p.items j (omega (arith, p.long))) h)
 
-  none_wrong : p.whole ≡ true → AllItemsGive p g f false → Told None
+  pub none_wrong : p.whole ≡ true → AllItemsGive p g f false → Told None
   unfolding wrong_offset
   none_wrong w h =
       let n : p.len ≡ begun bytes = let e = chunks.1 w in omega arith in
